@@ -1,0 +1,32 @@
+-- What write back tells and leaves, from the facts that lead there. Assumes nothing.
+use Prim.Native.Nat.{ℕ, _≤_, _<_}
+use mathlib.Core.Path.{_≡_, refl, sym, ap}
+use mathlib.Core.List.{List}
+use mathlib.Core.Bool.{true, false}
+use lib.Dec.{leb}
+use borrow.Author.Tests.{lt-ltb, le-ltb, leb-true}
+use Rattle.format.specs.declared.Header.{Header}
+use Rattle.format.proofs.Bools.{and-right}
+use Rattle.chart.specs.WriteBack.{holdsChart, fileLength, refused, writeBack, bufferAfter}
+use Rattle.chart.specs.declared.Written.{Written}
+use Rattle.chart.specs.declared.Written.the-variants.{Length}
+
+module _ (h : Header) (room : ℕ) where
+  pub tells-none : holdsChart h ≡ false → refused 21 0 ≡ writeBack h room
+  unfolding writeBack
+  tells-none e = rw e
+
+  pub tells-short : holdsChart h ≡ true → room < fileLength h → refused 12 0 ≡ writeBack h room
+  unfolding writeBack
+  tells-short e l = rw (e, lt-ltb room (fileLength h) l)
+
+  pub tells-file : holdsChart h ≡ true → fileLength h ≤ room → Length (fileLength h) ≡ writeBack h room
+  unfolding writeBack
+  tells-file e l = rw (e, le-ltb room (fileLength h) l)
+
+pub leaves-buffer : (w : Written) (number : ℕ) (h : Header) (table buf : List ℕ) → w ≡ refused number 0 → buf ≡ bufferAfter w h table buf
+unfolding bufferAfter
+leaves-buffer w number h table buf e = rw e
+
+pub holds-few : (h : Header) → holdsChart h ≡ true → h .boxes ≤ 204
+holds-few h e = leb-true (h .boxes) 204 (and-right (leb 1 (h .boxes)) (leb (h .boxes) 204) e)

@@ -1,0 +1,90 @@
+-- `write_back` tests in the definition's order; each return cites what write back tells and leaves there.
+use Prim.Native.Nat.{ℕ, _*_}
+use mathlib.Core.Path.{_≡_, ap, sym, _∙_}
+use mathlib.Core.Bool.{true}
+use native.Mathlib.Omega.{arith}
+use denote.Ref.{now}
+use borrow.Author.Tests.{not-true, not-false}
+use Rattle.format.specs.File.{blocksFor}
+use Rattle.chart.specs.WriteBack.{holdsChart, bufferAfter}
+use Rattle.chart.specs.declared.Written.the-variants.{Length}
+use Rattle.chart.proofs.Writes.{tells-none, tells-short, tells-file, leaves-buffer, holds-few}
+use borrow.Author.Needs.{needs}
+use Rattle.chart.proofs.write_back.Statement.{statement}
+use Rattle.chart.proofs.write_back.Tie as tie
+
+-- A chart is held past the first test.
+held : (c : tie.Else1) → holdsChart (c .before .before .before .args .header) ≡ true
+held c = sym (c .before .holds-chart .ensures) ∙ not-false _ (c .if1 .left)
+
+holds-chart-requires : tie.Need-holds-chart-requires
+holds-chart-requires c κs = search needs
+
+refuse-requires : tie.Need-refuse-requires
+refuse-requires c κs = search needs
+
+returns : tie.Need-returns
+returns c =
+    let a = c .before .before .before .before .args in
+    let told = c .refuse .ensures in (
+      told ∙ tells-none _ _ (sym (c .before .before .holds-chart .ensures) ∙ not-true _ (c .before .if1 .taken)),
+      leaves-buffer _ 21 (a .header) (now (a .table)) (now (a .buf)) told,
+    )
+
+to-usize-requires : tie.Need-to-usize-requires
+to-usize-requires c κs = search needs
+
+add-blocks : tie.Need-add-blocks
+add-blocks c = search needs
+
+add-blocks-2 : tie.Need-add-blocks-2
+add-blocks-2 c = search needs
+
+mul-size : tie.Need-mul-size
+mul-size c = search needs
+
+refuse-requires-2 : tie.Need-refuse-requires-2
+refuse-requires-2 c κs = search needs
+
+returns-2 : tie.Need-returns-2
+returns-2 c =
+    let a = c .before .before .before .before .before .before .args in
+    let told = c .refuse2 .ensures in (
+      told ∙ tells-short _ _ (held (c .before .before .before)) (omega (arith, c .before .before .to-usize .ensures .0, c .before .if2 .taken)),
+      leaves-buffer _ 12 (a .header) (now (a .table)) (now (a .buf)) told,
+    )
+
+write-file-requires : tie.Need-write-file-requires
+write-file-requires c κs =
+    let n = c .before .before .before .to-usize .ensures .0 in
+    let few = holds-few (c .before .before .before .before .before .before .before .args .header) (held (c .before .before .before .before)) in
+    (search needs, ap blocksFor n, omega (arith, few, n), omega arith)
+
+same-length : tie.Need-same-length
+same-length c = search needs
+
+returns-3 : tie.Need-returns-3
+unfolding bufferAfter
+returns-3 c =
+    let a = c .before .before .before .before .before .before .before .before .before .before .args in
+    let n = c .before .before .before .before .before .before .to-usize .ensures .0 in (
+      ap (λ (x : ℕ). Length (512 * blocksFor x)) n ∙ tells-file _ _ (held (c .before .before .before .before .before .before .before)) (omega (arith, n, c .before .before .before .before .before .if2 .left)),
+      c .before .before .write-file .ensures,
+    )
+
+pub write-back-spec : {M : Type 1} → statement M
+write-back-spec =
+    tie.close
+    (tie.spec
+    holds-chart-requires
+    refuse-requires
+    returns
+    to-usize-requires
+    add-blocks
+    add-blocks-2
+    mul-size
+    refuse-requires-2
+    returns-2
+    write-file-requires
+    same-length
+    returns-3)

@@ -1,0 +1,81 @@
+-- `write_nth` writes the header as block 0, and as block j the 51 boxes that the definition names.
+use Prim.Native.Nat.{ℕ, _*_, _-_}
+use mathlib.Core.Path.{ap, _∙_}
+use mathlib.Core.List.{List, _++_}
+use lib.ListN.{drop}
+use denote.Ref.{now}
+use Rattle.format.specs.Block.{seal}
+use Rattle.format.proofs.Places.{part-to}
+use Rattle.chart.proofs.Blocks.{body-first, body-later}
+use borrow.Author.Needs.{needs}
+use Rattle.chart.proofs.write_nth.Statement.{statement}
+use Rattle.chart.proofs.write_nth.Tie as tie
+
+header-body-requires : tie.Need-header-body-requires
+header-body-requires c κs = search needs
+
+slice-aggregate-write-block : tie.Need-slice-aggregate-write-block
+slice-aggregate-write-block c = search needs
+
+write-block-requires : tie.Need-write-block-requires
+write-block-requires c κs = search needs
+
+same-length : tie.Need-same-length
+same-length c = search needs
+
+returns : tie.Need-returns
+returns c =
+    let a = c .before .before .before .before .before .before .before .before .before .args in
+    c .before .before .write-block .ensures
+    ∙ ap (λ (b : List ℕ). seal b ++ drop 512 (now (a .part)))
+    (c .before .before .before .before .before .header-body .ensures ∙ body-first (a .header) (now (a .table)) (a .j) (c .before .before .before .before .before .before .if1 .taken))
+
+sub-start : tie.Need-sub-start
+sub-start c = search needs
+
+mul-start : tie.Need-mul-start
+mul-start c = search needs
+
+add-end : tie.Need-add-end
+add-end c = search needs
+
+sub-write-block : tie.Need-sub-write-block
+sub-write-block c = search needs
+
+part-write-block-start : tie.Need-part-write-block-start
+part-write-block-start c = search needs
+
+part-write-block-end : tie.Need-part-write-block-end
+part-write-block-end c = search needs
+
+write-block-requires-2 : tie.Need-write-block-requires-2
+write-block-requires-2 c κs = search needs
+
+same-length-2 : tie.Need-same-length-2
+same-length-2 c = search needs
+
+returns-2 : tie.Need-returns-2
+returns-2 c =
+    let a = c .before .before .before .before .before .before .before .before .args in
+    c .before .before .write-block2 .ensures
+    ∙ ap (λ (b : List ℕ). seal b ++ drop 512 (now (a .part)))
+    (part-to (now (a .table)) (510 * (a .j - 1)) 510 ∙ body-later (a .header) (now (a .table)) (a .j) (c .before .before .before .before .before .if1 .left))
+
+pub write-nth-spec : {M : Type 1} → statement M
+write-nth-spec =
+    tie.close
+    (tie.spec
+    header-body-requires
+    slice-aggregate-write-block
+    write-block-requires
+    same-length
+    returns
+    sub-start
+    mul-start
+    add-end
+    sub-write-block
+    part-write-block-start
+    part-write-block-end
+    write-block-requires-2
+    same-length-2
+    returns-2)

@@ -1,0 +1,43 @@
+-- The chart that a file holds, and the file that holds a chart: a header and a table of 204 places of ten bytes.
+use Prim.Native.Nat.{ℕ, zero, suc, _+_, _*_, _-_, _/_, min}
+use mathlib.Core.List.{List, [], _∷_, _++_}
+use lib.ListN.{length, replicate}
+use Rattle.format.specs.Bytes.{part}
+use Rattle.format.specs.Block.{seal}
+use Rattle.format.specs.File.{blocksFor}
+use Rattle.format.specs.declared.Header.{Header}
+
+-- piece 0, piece 1, .., piece (count - 1), one after the other.
+unfoldable pub joined : (ℕ → List ℕ) → ℕ → List ℕ
+joined piece zero = []
+joined piece (suc count) = joined piece count ++ piece count
+
+-- The blocks of boxes in a file of so many bytes: all but block 0, and a table has room for four.
+abbrev pub boxBlocks : ℕ → ℕ
+boxBlocks bytes = min 4 (bytes / 512 - 1)
+
+-- The 51 boxes of block 1 + j.
+abbrev pub boxesOf : List ℕ → ℕ → List ℕ
+boxesOf f j = part f (512 * (1 + j)) 510
+
+-- The box table of a file, 2,040 bytes: its boxes, and 0 past them.
+unfoldable pub tableOf : List ℕ → List ℕ
+tableOf f = joined (boxesOf f) (boxBlocks (length f)) ++ replicate (2040 - 510 * boxBlocks (length f)) 0
+
+-- Box p of a table, ten bytes.
+abbrev pub boxOf : List ℕ → ℕ → List ℕ
+boxOf table p = part table (10 * p) 10
+
+-- Bytes 0 to 509 of block 0: "the ASCII letters FLOW; byte 4 the edition, 1; byte 5 the number of inputs k ..; byte 6 the number of boxes n
+-- ..; byte 7 the first box run ..; bytes 8 to 509 are 0".
+unfoldable pub headerBody : Header → List ℕ
+headerBody h = (70 ∷ 76 ∷ 79 ∷ 87 ∷ 1 ∷ h .inputs ∷ h .boxes ∷ h .first ∷ []) ++ replicate 502 0
+
+-- Bytes 0 to 509 of block j: the header, or 51 boxes of the table.
+unfoldable pub bodyOf : Header → List ℕ → ℕ → List ℕ
+bodyOf h table zero = headerBody h
+bodyOf h table (suc j) = part table (510 * j) 510
+
+-- The file of a chart: each block its 510 bytes and their check.
+unfoldable pub fileOf : Header → List ℕ → List ℕ
+fileOf h table = joined (λ j. seal (bodyOf h table j)) (blocksFor (h .boxes))

@@ -1,0 +1,152 @@
+// A chart out of its file and back: the box table of a file, the file of a chart, and one box of a file.
+use format::Checked;
+use format::Header;
+use format::Refusal;
+ghost use mathlib.Core.Path.{_≡_};
+ghost use mathlib.Core.List.{_++_};
+ghost use Prim.Native.Nat.{_*_, _≤_};
+ghost use lib.ListN.{length, drop};
+ghost use Rattle.format.specs.Block.{seal};
+ghost use Rattle.format.specs.File.{blocksFor};
+ghost use Rattle.chart.specs.Chart.{joined, boxBlocks, tableOf, headerBody, bodyOf, fileOf};
+ghost use Rattle.chart.specs.WriteBack.{holdsChart, refused, writeBack, bufferAfter};
+ghost use Rattle.chart.specs.ShowBox.{showBox};
+
+// What write back tells.
+pub enum Written {
+    Length(usize),
+    Refused(Refusal),
+}
+
+fn refuse(number: u32) -> Written
+    ensures { λ r. ⌜ r ≡ refused number 0 ⌝ }
+{
+    Written::Refused(Refusal { number, detail: 0 })
+}
+
+fn box_blocks(bytes: usize) -> usize
+    ensures { λ r. ⌜ r ≡ boxBlocks bytes ⌝ }
+{
+    let blocks = bytes / 512;
+    if blocks < 1 {
+        return 0;
+    }
+    if 5 < blocks {
+        return 4;
+    }
+    blocks - 1
+}
+
+// The box table of a file, filled block by block; the blocks that the file lacks are zero bytes.
+pub fn table_of(file: &[u8]) -> [u8; 2040]
+    ensures { λ r. ⌜ r ≡ tableOf (now (file .entry)) ⌝ }
+{
+    let count = box_blocks(file.len());
+    let mut table = [0u8; 2040];
+    let mut j: usize = 0;
+    while j < count {
+        let to = 510 * j;
+        let start = 512 * (1 + j);
+        let end = start + 510;
+        bytes::copy(&file[start..end], &mut table[to..]);
+        j += 1;
+    }
+    table
+}
+
+// The block of 510 bytes, into the front of a part.
+fn write_block(part: &mut [u8], body: &[u8])
+    requires { ⌜ (length (now body) ≡ 510) × (512 ≤ length (now part)) ⌝ }
+    ensures { λ _. ⌜ now (part .exit) ≡ seal (now (body .entry)) ++ drop 512 (now (part .entry)) ⌝ }
+{
+    bytes::copy(body, part);
+    let check = format::checksum(body);
+    part[510] = (check % 256) as u8;
+    part[511] = (check / 256 % 256) as u8;
+}
+
+fn header_body(header: Header) -> [u8; 510]
+    ensures { λ r. ⌜ r ≡ headerBody header ⌝ }
+{
+    let mut body = [0u8; 510];
+    body[0] = b'F';
+    body[1] = b'L';
+    body[2] = b'O';
+    body[3] = b'W';
+    body[4] = 1;
+    body[5] = header.inputs;
+    body[6] = header.boxes;
+    body[7] = header.first;
+    body
+}
+
+// Block j of a chart's file, into the front of a part.
+fn write_nth(header: Header, table: &[u8], j: usize, part: &mut [u8])
+    requires { ⌜ (length (now table) ≡ 2040) × (j ≤ 4) × (512 ≤ length (now part)) ⌝ }
+    ensures { λ _. ⌜ now (part .exit) ≡ seal (bodyOf header (now (table .entry)) j) ++ drop 512 (now (part .entry)) ⌝ }
+{
+    if j == 0 {
+        let body = header_body(header);
+        write_block(part, &body);
+        return;
+    }
+    let start = 510 * (j - 1);
+    let end = start + 510;
+    write_block(part, &table[start..end]);
+}
+
+// A chart's file into the front of a buffer, each block into its own part.
+fn write_file(header: Header, table: &[u8], blocks: usize, buf: &mut [u8])
+    requires { ⌜ (length (now table) ≡ 2040) × (blocks ≡ blocksFor (header .boxes)) × (blocks ≤ 5) × (512 * blocks ≤ length (now buf)) ⌝ }
+    ensures { λ _. ⌜ now (buf .exit) ≡ fileOf header (now (table .entry)) ++ drop (512 * blocks) (now (buf .entry)) ⌝ }
+{
+    let mut j: usize = 0;
+    while j < blocks {
+        let at = 512 * j;
+        write_nth(header, table, j, &mut buf[at..]);
+        j += 1;
+    }
+}
+
+fn holds_chart(header: Header) -> bool
+    ensures { λ r. ⌜ r ≡ holdsChart header ⌝ }
+{
+    (1 <= header.boxes) & (header.boxes <= 204)
+}
+
+// The file of a chart at the front of a lent buffer, and its length; a refusal leaves the buffer as it was.
+pub fn write_back(header: Header, table: &[u8; 2040], buf: &mut [u8]) -> Written
+    ensures { λ r. ⌜ r ≡ writeBack header (length (now (buf .entry))) ⌝ }
+    ensures { λ r. ⌜ now (buf .exit) ≡ bufferAfter r header (now (table .entry)) (now (buf .entry)) ⌝ }
+{
+    if !holds_chart(header) {
+        return refuse(21);
+    }
+    let blocks = 1 + (widen::to_usize(header.boxes) + 50) / 51;
+    let size = 512 * blocks;
+    if buf.len() < size {
+        return refuse(12);
+    }
+    let boxes = &table[..];
+    write_file(header, boxes, blocks, buf);
+    Written::Length(size)
+}
+
+// The ten bytes of a box as a part of the lent file; an empty part where load would refuse the file or no box has the number.
+pub fn show_box(file: &[u8], number: u32) -> &[u8]
+    ensures { λ r. ⌜ now r ≡ showBox (now (file .entry)) number ⌝ }
+{
+    let checked = format::check_file(file);
+    match checked {
+        Checked::Accepted(header) => {
+            let p = number as usize;
+            if p < widen::to_usize(header.boxes) {
+                let start = 512 * (1 + p / 51) + 10 * (p % 51);
+                let end = start + 10;
+                return &file[start..end];
+            }
+            &file[0..0]
+        }
+        Checked::Refused(_) => &file[0..0],
+    }
+}

@@ -1,0 +1,48 @@
+-- Charts A to E of document 01, as files. The two bytes of each check are written out, not computed by the definitions.
+use Prim.Native.Nat.{ℕ, _-_}
+use mathlib.Core.List.{List, [], _∷_, _++_}
+use lib.ListN.{length, replicate}
+
+-- A block: bytes at its front, zeros up to byte 509, and the check, low byte first.
+abbrev pub block : List ℕ → ℕ → ℕ → List ℕ
+block front low high = front ++ replicate (510 - length front) 0 ++ (low ∷ high ∷ [])
+
+-- The front of block 0: the letters, the edition, k, n and the first box.
+abbrev pub front : ℕ → ℕ → ℕ → List ℕ
+front k n first = 70 ∷ 76 ∷ 79 ∷ 87 ∷ 1 ∷ k ∷ n ∷ first ∷ []
+
+-- Boxes.
+abbrev pub assign : (target op left right next constant : ℕ) → List ℕ
+assign target op left right next constant = 1 ∷ target ∷ op ∷ left ∷ right ∷ next ∷ constant ∷ 0 ∷ 0 ∷ 0 ∷ []
+
+abbrev pub decide : (comparison left right next other : ℕ) → List ℕ
+decide comparison left right next other = 2 ∷ 0 ∷ comparison ∷ left ∷ right ∷ next ∷ other ∷ 0 ∷ 0 ∷ 0 ∷ []
+
+abbrev pub halt : List ℕ
+halt = 3 ∷ replicate 9 0
+
+-- "A, k 2: 31 copies 0; 31 copies 1."
+unfoldable pub chartA : List ℕ
+chartA = block (front 2 3 0) 77 3 ++ block (assign 31 1 0 0 1 0 ++ assign 31 1 1 0 2 0 ++ halt) 65 2
+
+-- "B, k 1: box 0 decides 0 equal 16, true 1, false 2; box 1 sets 31 to 1, next 3; box 2 sets 17 to 5, next 1; box 3 halts."
+unfoldable pub chartB : List ℕ
+chartB = block (front 1 4 0) 78 3 ++ block (decide 0 0 16 1 2 ++ assign 31 0 0 0 3 1 ++ assign 17 0 0 0 1 5 ++ halt) 175 4
+
+-- "C, k 0: box 0 copies 16 to 16, next 0; n is 1, no halt."
+unfoldable pub chartC : List ℕ
+chartC = block (front 0 1 0) 51 3 ++ block (assign 16 1 16 0 0 0) 100 0
+
+-- "D, k 1: 31 is variable 0 minus variable 0."
+unfoldable pub chartD : List ℕ
+chartD = block (front 1 2 0) 64 3 ++ block (assign 31 3 0 0 1 0 ++ halt) 111 0
+
+-- "E, k 1: 31 is constant 5." "Checks: block 0 has 832, block 1 has 137."
+unfoldable pub headE : List ℕ
+headE = block (front 1 2 0) 64 3
+
+unfoldable pub boxesE : List ℕ
+boxesE = block (assign 31 0 0 0 1 5 ++ halt) 137 0
+
+unfoldable pub chartE : List ℕ
+chartE = headE ++ boxesE

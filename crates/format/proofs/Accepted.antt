@@ -1,0 +1,106 @@
+-- What it says of a file that its checks pass: one record of facts, which load, show a box and the round trip cite.
+-- Assumes nothing.
+use Prim.Native.Nat.{ℕ, _+_, _*_, _-_, _/_, _≤_, _<_}
+use mathlib.Core.Path.{_≡_, refl, ap, sym, _∙_}
+use mathlib.Core.List.{List, [], _∷_}
+use mathlib.Core.Bool.{Bool, true, false, cond, not}
+use native.Mathlib.Omega.{arith}
+use lib.Dec.{eqb, ltb, leb}
+use lib.ListN.{length}
+use borrow.Author.Tests.{eqb-true, ltb-true, leb-true, not-false}
+use Rattle.format.specs.Bytes.{at, part, allZero, firstFailing}
+use Rattle.format.specs.Block.{isSealed}
+use Rattle.format.specs.File.{blockOf, blocksFor, headerOf, lengthRule, lettersRule, headerRule, placeRule, refused, checkFile}
+use Rattle.format.specs.declared.Header.{Header}
+use Rattle.format.specs.declared.Checked.{Checked}
+use Rattle.format.specs.declared.Checked.the-variants as checked
+use Rattle.format.proofs.Bools.{every}
+use Rattle.format.proofs.Search.{all-hold}
+use Rattle.format.proofs.Places.{Blocks, blocks-of}
+
+-- What check 3 says of the first bytes.
+pub record Letters (f : List ℕ) : Type 0 where
+  pub f0 : at f 0 ≡ 70
+  pub f1 : at f 1 ≡ 76
+  pub f2 : at f 2 ≡ 79
+  pub f3 : at f 3 ≡ 87
+  pub f4 : at f 4 ≡ 1
+
+pub record Accepted (f : List ℕ) (h : Header) : Type 0 where
+  pub header : h ≡ headerOf f
+  pub long : length f ≡ 512 * blocksFor (h .boxes)
+  pub some : 1 ≤ h .boxes
+  pub fits : h .boxes ≤ 204
+  pub few : h .inputs ≤ 16
+  pub start : h .first < h .boxes
+  pub rest : allZero (part f 8 502) ≡ true
+  pub letters : Letters f
+  pub checks : (j : ℕ) → j < blocksFor (h .boxes) → isSealed (blockOf f j) ≡ true
+  pub places : (p : ℕ) → p < 51 * (blocksFor (h .boxes) - 1) → placeRule f (h .inputs) (h .boxes) p ≡ true
+
+-- A check that a file passed did not refuse it.
+passed : (b : Bool) {x : Checked} (number detail : ℕ) {h : Header} → cond b (refused number detail) x ≡ checked.Accepted h → (b ≡ false) × (x ≡ checked.Accepted h)
+passed true number detail e = let z : _≡_ {A = ℕ} 0 1 = cc in absurd (omega arith)
+passed false number detail e = (refl, e)
+
+letters-of : (f : List ℕ) → lettersRule f ≡ true → Letters f
+letters-of f e =
+    let r = every (eqb (at f 0) 70) (eqb (at f 1) 76 ∷ eqb (at f 2) 79 ∷ eqb (at f 3) 87 ∷ eqb (at f 4) 1 ∷ []) e in
+    record {
+      f0 = eqb-true (at f 0) 70 (r .0);
+      f1 = eqb-true (at f 1) 76 (r .1 .0);
+      f2 = eqb-true (at f 2) 79 (r .1 .1 .0);
+      f3 = eqb-true (at f 3) 87 (r .1 .1 .1 .0);
+      f4 = eqb-true (at f 4) 1 (r .1 .1 .1 .1 .0);
+    }
+
+-- What check 4 says of the header.
+record Sound (f : List ℕ) : Type 0 where
+  few : at f 5 ≤ 16
+  some : 1 ≤ at f 6
+  fits : at f 6 ≤ 204
+  start : at f 7 < at f 6
+  rest : allZero (part f 8 502) ≡ true
+
+sound-of : (f : List ℕ) → headerRule f ≡ true → Sound f
+unfolding headerRule
+sound-of f e =
+    let r = every (leb (at f 5) 16) (leb 1 (at f 6) ∷ leb (at f 6) 204 ∷ ltb (at f 7) (at f 6) ∷ allZero (part f 8 502) ∷ []) e in
+    record {
+      few = leb-true (at f 5) 16 (r .0);
+      some = leb-true 1 (at f 6) (r .1 .0);
+      fits = leb-true (at f 6) 204 (r .1 .1 .0);
+      start = ltb-true (at f 7) (at f 6) (r .1 .1 .1 .0);
+      rest = r .1 .1 .1 .1 .0;
+    }
+
+pub accepted : (f : List ℕ) (h : Header) → checkFile f ≡ checked.Accepted h → Accepted f h
+unfolding checkFile
+accepted f h e =
+    let blocks = length f / 512 in
+    let places = 51 * (blocks - 1) in
+    let wrong = firstFailing (λ j. isSealed (blockOf f j)) blocks in
+    let broken = firstFailing (placeRule f (at f 5) (at f 6)) places in
+    let one = passed (not (lengthRule (length f))) 1 0 e in
+    let two = passed (ltb wrong blocks) 2 wrong (one .1) in
+    let three = passed (not (lettersRule f)) 3 0 (two .1) in
+    let four = passed (not (headerRule f)) 4 0 (three .1) in
+    let five = passed (not (eqb blocks (blocksFor (at f 6)))) 5 0 (four .1) in
+    let six = passed (ltb broken places) 6 broken (five .1) in
+    let same : h ≡ headerOf f = cc (six .1) in
+    let b = blocks-of (length f) (not-false _ (one .0)) in
+    let s = sound-of f (not-false _ (four .0)) in
+    let size : blocks ≡ blocksFor (at f 6) = eqb-true _ _ (not-false _ (five .0)) in
+    rw same
+    (record {
+      header = refl;
+      long = omega (arith, b .whole, size);
+      some = s .some;
+      fits = s .fits;
+      few = s .few;
+      start = s .start;
+      rest = s .rest;
+      letters = letters-of f (not-false _ (three .0));
+      checks = λ j l. all-hold (λ i. isSealed (blockOf f i)) blocks (two .0) j (omega arith);
+      places = λ p l. all-hold (placeRule f (at f 5) (at f 6)) places (six .0) p (omega arith);
+    })

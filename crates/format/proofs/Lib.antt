@@ -1,0 +1,8 @@
+-- Laws of the definitions in specs/ that the proofs cite.
+pub mod Bools
+pub mod Zeros
+pub mod Search
+pub mod Sums
+pub mod Places
+pub mod Checks
+pub mod Accepted

@@ -1,0 +1,53 @@
+-- Laws of firstFailing: how a loop that counts up looks for the number, and what it says where no number fails.
+-- search-start, search-more, search-stop, search-end; all-hold. Assumes nothing.
+use Prim.Native.Nat.{ℕ, zero, suc, _+_, _-_, _≤_, _<_}
+use mathlib.Core.Path.{_≡_, refl, ap, sym, _∙_}
+use mathlib.Core.Bool.{Bool, true, false, cond}
+use mathlib.Core.Logic.{⊎-elim}
+use native.Mathlib.Numerals.{add-one}
+use native.Mathlib.Nat.{sub-zero, eq-or-lt-of-le}
+use native.Mathlib.Omega.{arith}
+use lib.Dec.{ltb}
+use borrow.Author.Tests.{ltb-false}
+use Rattle.format.specs.Bytes.{firstFrom, firstFailing}
+
+module _ (test : ℕ → Bool) (count : ℕ) where
+  -- What the search still has to look at, from i on.
+  abbrev pub from : ℕ → ℕ
+  from i = firstFrom test i (count - i)
+
+  pub search-start : from 0 ≡ firstFailing test count
+  search-start = ap (firstFrom test 0) (sub-zero count)
+
+  search-here : (i : ℕ) → i < count → from i ≡ cond (test i) (from (i + 1)) i
+  unfolding firstFrom
+  search-here i h =
+      let e : count - i ≡ suc (count - (i + 1)) = omega (arith, add-one (count - (i + 1))) in
+      ap (firstFrom test i) e
+
+  pub search-more : (i : ℕ) → i < count → test i ≡ true → from i ≡ firstFailing test count → from (i + 1) ≡ firstFailing test count
+  search-more i h t e = sym (rw t at (search-here i h)) ∙ e
+
+  pub search-stop : (i : ℕ) → i < count → test i ≡ false → from i ≡ firstFailing test count → i ≡ firstFailing test count
+  search-stop i h t e = sym (rw t at (search-here i h)) ∙ e
+
+  pub search-end : (i : ℕ) → i ≤ count → count ≤ i → from i ≡ firstFailing test count → count ≡ firstFailing test count
+  unfolding firstFrom
+  search-end i h l e =
+      let none : count - i ≡ 0 = omega arith in
+      let here : count ≡ i = omega arith in
+      here ∙ sym (ap (firstFrom test i) none) ∙ e
+
+module _ (test : ℕ → Bool) where
+  all-from : (left i : ℕ) → i + left ≤ firstFrom test i left → (j : ℕ) → i ≤ j → j < i + left → test j ≡ true
+  unfolding firstFrom
+  all-from zero i h j l q = absurd (omega arith)
+  all-from (suc left) i h j l q = here (test i) refl h (λ g d. all-from left (i + 1) g j d (omega arith))
+    where
+      here : (b : Bool) → test i ≡ b → i + suc left ≤ cond b (firstFrom test (i + 1) left) i
+          → (i + 1 + left ≤ firstFrom test (i + 1) left → i + 1 ≤ j → test j ≡ true) → test j ≡ true
+      here true e g rest = ⊎-elim (λ d. ap test (sym d) ∙ e) (λ d. rest (omega arith) (omega arith)) (eq-or-lt-of-le l)
+      here false e g rest = absurd (omega arith)
+
+  pub all-hold : (count : ℕ) → ltb (firstFailing test count) count ≡ false → (j : ℕ) → j < count → test j ≡ true
+  all-hold count e j l = all-from count 0 (omega (arith, ltb-false (firstFailing test count) count e)) j (omega arith) (omega arith)

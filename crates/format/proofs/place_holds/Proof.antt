@@ -1,0 +1,75 @@
+-- `place_holds` branches where the rule does, at the part that the rule names.
+use mathlib.Core.Path.{ap, _∙_}
+use native.Mathlib.Omega.{arith}
+use borrow.Author.Tests.{lt-ltb, le-ltb}
+use denote.Ref.{now}
+use Rattle.format.specs.Bytes.{allZero}
+use Rattle.format.specs.Box.{wellFormed}
+use Rattle.format.specs.File.{placeStart, placeRule}
+use Rattle.format.proofs.Places.{part-to}
+use borrow.Author.Needs.{needs}
+use Rattle.format.proofs.place_holds.Statement.{statement}
+use Rattle.format.proofs.place_holds.Tie as tie
+
+add-start : tie.Need-add-start
+add-start c = search needs
+
+mul-start : tie.Need-mul-start
+mul-start c = search needs
+
+mul-start-2 : tie.Need-mul-start-2
+mul-start-2 c = search needs
+
+add-start-2 : tie.Need-add-start-2
+add-start-2 c = search needs
+
+add-end : tie.Need-add-end
+add-end c = search needs
+
+sub-place : tie.Need-sub-place
+sub-place c = search needs
+
+part-place-start : tie.Need-part-place-start
+part-place-start c = search needs
+
+part-place-end : tie.Need-part-place-end
+part-place-end c = search needs
+
+to-usize-requires : tie.Need-to-usize-requires
+to-usize-requires c κs = search needs
+
+well-formed-requires : tie.Need-well-formed-requires
+well-formed-requires c κs = search needs
+
+returns : tie.Need-returns
+unfolding placeRule
+returns c =
+    let a = c .before .before .before .before .before .args in
+    rw (lt-ltb (a .p) (a .n) (omega arith)) (c .well-formed .ensures ∙ ap (wellFormed (a .k) (a .n)) (part-to (now (a .file)) (placeStart (a .p)) 10))
+
+all-zero-requires : tie.Need-all-zero-requires
+all-zero-requires c κs = search needs
+
+returns-2 : tie.Need-returns-2
+unfolding placeRule
+returns-2 c =
+    let a = c .before .before .before .before .before .args in
+    rw (le-ltb (a .p) (a .n) (omega arith)) (c .all-zero .ensures ∙ ap allZero (part-to (now (a .file)) (placeStart (a .p)) 10))
+
+pub place-holds-spec : {M : Type 1} → statement M
+place-holds-spec =
+    tie.close
+    (tie.spec
+    add-start
+    mul-start
+    mul-start-2
+    add-start-2
+    add-end
+    sub-place
+    part-place-start
+    part-place-end
+    to-usize-requires
+    well-formed-requires
+    returns
+    all-zero-requires
+    returns-2)

@@ -1,0 +1,68 @@
+-- The chart file as load's input checks 1 to 6 see it.
+use Prim.Native.Nat.{ℕ, _+_, _*_, _-_, _/_, _%_}
+use mathlib.Core.List.{List}
+use mathlib.Core.Bool.{Bool, cond, not, _&&_, _||_}
+use lib.Dec.{eqb, ltb, leb}
+use lib.ListN.{length}
+use Rattle.format.specs.Bytes.{at, part, allZero, firstFailing}
+use Rattle.format.specs.Block.{isSealed}
+use Rattle.format.specs.Box.{wellFormed}
+use Rattle.format.specs.declared.Header.{Header}
+use Rattle.format.specs.declared.Checked.{Checked}
+use Rattle.format.specs.declared.Checked.the-variants.{Accepted, Refused}
+
+-- Block j of a file: "blocks of 512 bytes".
+abbrev pub blockOf : List ℕ → ℕ → List ℕ
+blockOf f j = part f (512 * j) 512
+
+-- "Each later block holds 51 boxes of ten bytes, box 0 first": where place p starts, and its ten bytes.
+abbrev pub placeStart : ℕ → ℕ
+placeStart p = 512 * (1 + p / 51) + 10 * (p % 51)
+
+abbrev pub placeOf : List ℕ → ℕ → List ℕ
+placeOf f p = part f (placeStart p) 10
+
+-- "The file has 1 + (n divided by 51, rounded up) blocks."
+abbrev pub blocksFor : ℕ → ℕ
+blocksFor n = 1 + (n + 50) / 51
+
+-- Block 0: "byte 5 the number of inputs k"; "byte 6 the number of boxes n"; "byte 7 the first box run".
+abbrev pub headerOf : List ℕ → Header
+headerOf f = record { inputs = at f 5; boxes = at f 6; first = at f 7 }
+
+-- "1: file length isn't 1,024, 1,536, 2,048 or 2,560."
+abbrev pub lengthRule : ℕ → Bool
+lengthRule n = eqb n 1024 || eqb n 1536 || eqb n 2048 || eqb n 2560
+
+-- "3: the letters or the edition are wrong." The letters are FLOW, the edition is 1.
+abbrev pub lettersRule : List ℕ → Bool
+lettersRule f = eqb (at f 0) 70 && eqb (at f 1) 76 && eqb (at f 2) 79 && eqb (at f 3) 87 && eqb (at f 4) 1
+
+-- "4: k, n, the first box, or bytes 8 to 509 of block 0 break a rule."
+unfoldable pub headerRule : List ℕ → Bool
+headerRule f =
+    leb (at f 5) 16 && leb 1 (at f 6) && leb (at f 6) 204 && ltb (at f 7) (at f 6) && allZero (part f 8 502)
+
+-- "6: a box, or a place after the last box, breaks a rule." "Places from n on are all 0."
+unfoldable pub placeRule : List ℕ → ℕ → ℕ → ℕ → Bool
+placeRule f k n p = cond (ltb p n) (wellFormed k n (placeOf f p)) (allZero (placeOf f p))
+
+-- A refusal by document 01's number and detail.
+abbrev pub refused : ℕ → ℕ → Checked
+refused number detail = Refused (record { number = number; detail = detail })
+
+-- Load's input checks, "1 to 6 in order": "2: a block's check differs. Detail: the first such block." "5: the length doesn't fit n." "6: ..
+-- Detail: the first such place."
+unfoldable pub checkFile : List ℕ → Checked
+checkFile f =
+    let blocks = length f / 512 in
+    let wrong = firstFailing (λ j. isSealed (blockOf f j)) blocks in
+    let places = 51 * (blocks - 1) in
+    let broken = firstFailing (placeRule f (at f 5) (at f 6)) places in
+    cond (not (lengthRule (length f))) (refused 1 0)
+    (cond (ltb wrong blocks) (refused 2 wrong)
+    (cond (not (lettersRule f)) (refused 3 0)
+    (cond (not (headerRule f)) (refused 4 0)
+    (cond (not (eqb blocks (blocksFor (at f 6)))) (refused 5 0)
+    (cond (ltb broken places) (refused 6 broken)
+    (Accepted (headerOf f)))))))

@@ -1,0 +1,39 @@
+// A block of the chart file and its check.
+ghost use mathlib.Core.Path.{_≡_};
+ghost use Prim.Native.Nat.{_≤_, min};
+ghost use lib.ListN.{length};
+ghost use Rattle.format.specs.Block.{checksum, isSealed};
+
+fn at_most_510(n: usize) -> usize
+    ensures { λ r. ⌜ r ≡ min 510 n ⌝ }
+{
+    if n < 510 {
+        return n;
+    }
+    510
+}
+
+// The check of a block: the sum over its bytes 0 to 509 of (position + 1) times byte, modulo 65,536. A shorter slice is summed to its end.
+pub fn checksum(block: &[u8]) -> u32
+    ensures { λ r. ⌜ r ≡ checksum (now (block .entry)) ⌝ }
+{
+    let end = at_most_510(block.len());
+    let mut sum: u32 = 0;
+    let mut weight: u32 = 1;
+    let mut i: usize = 0;
+    while i < end {
+        sum += weight * widen::to_u32(block[i]);
+        weight += 1;
+        i += 1;
+    }
+    sum % 65536
+}
+
+// Bytes 510 and 511 hold the block's check, low byte first.
+pub(crate) fn is_sealed(block: &[u8]) -> bool
+    requires { ⌜ 512 ≤ length (now block) ⌝ }
+    ensures { λ r. ⌜ r ≡ isSealed (now (block .entry)) ⌝ }
+{
+    let check = checksum(block);
+    (widen::to_u32(block[510]) == check % 256) & (widen::to_u32(block[511]) == check / 256)
+}

@@ -1,0 +1,148 @@
+// The chart file's rules: what load's input checks 1 to 6 answer of any bytes.
+mod block;
+mod boxes;
+
+pub use block::checksum;
+use block::is_sealed;
+use boxes::all_zero;
+use boxes::well_formed;
+ghost use mathlib.Core.Path.{_≡_};
+ghost use Prim.Native.Nat.{ℕ, _+_, _*_, _<_, _≤_};
+ghost use lib.ListN.{length};
+ghost use Rattle.format.specs.Bytes.{firstFailing};
+ghost use Rattle.format.specs.Block.{isSealed};
+ghost use Rattle.format.specs.File.{blockOf, placeStart, lengthRule, lettersRule, headerRule, placeRule, refused, checkFile};
+
+// A refusal, by document 01's number and detail.
+pub struct Refusal {
+    pub number: u32,
+    pub detail: u32,
+}
+
+// Block 0's numbers of a chart: of inputs, of boxes, and of the first box run.
+pub struct Header {
+    pub inputs: u8,
+    pub boxes: u8,
+    pub first: u8,
+}
+
+// What load's input checks answer.
+pub enum Checked {
+    Accepted(Header),
+    Refused(Refusal),
+}
+
+fn refuse(number: u32, detail: u32) -> Checked
+    ensures { λ r. ⌜ r ≡ refused number detail ⌝ }
+{
+    Checked::Refused(Refusal { number, detail })
+}
+
+fn length_holds(n: usize) -> bool
+    ensures { λ r. ⌜ r ≡ lengthRule n ⌝ }
+{
+    (n == 1024) | (n == 1536) | (n == 2048) | (n == 2560)
+}
+
+fn letters_hold(file: &[u8]) -> bool
+    requires { ⌜ 512 ≤ length (now file) ⌝ }
+    ensures { λ r. ⌜ r ≡ lettersRule (now (file .entry)) ⌝ }
+{
+    (file[0] == b'F') & (file[1] == b'L') & (file[2] == b'O') & (file[3] == b'W') & (file[4] == 1)
+}
+
+fn header_holds(file: &[u8]) -> bool
+    requires { ⌜ 512 ≤ length (now file) ⌝ }
+    ensures { λ r. ⌜ r ≡ headerRule (now (file .entry)) ⌝ }
+{
+    (file[5] <= 16)
+        & (1 <= file[6])
+        & (file[6] <= 204)
+        & (file[7] < file[6])
+        & all_zero(&file[8..510])
+}
+
+// The first of a file's blocks whose check differs, or their number where none does.
+fn first_wrong(file: &[u8], blocks: usize) -> usize
+    requires { ⌜ (blocks ≤ 5) × (512 * blocks ≤ length (now file)) ⌝ }
+    ensures { λ r. ⌜ r ≡ firstFailing (λ j. isSealed (blockOf (now (file .entry)) j)) blocks ⌝ }
+{
+    let mut j: usize = 0;
+    while j < blocks {
+        let start = 512 * j;
+        let end = start + 512;
+        if !is_sealed(&file[start..end]) {
+            return j;
+        }
+        j += 1;
+    }
+    blocks
+}
+
+// A box that obeys the rules, or past the last box ten zero bytes.
+fn place_holds(file: &[u8], k: u8, n: u8, p: usize) -> bool
+    requires { ⌜ (p < 256) × (placeStart p + 10 ≤ length (now file)) ⌝ }
+    ensures { λ r. ⌜ r ≡ placeRule (now (file .entry)) k n p ⌝ }
+{
+    let start = 512 * (1 + p / 51) + 10 * (p % 51);
+    let end = start + 10;
+    let place = &file[start..end];
+    if p < widen::to_usize(n) {
+        return well_formed(k, n, place);
+    }
+    all_zero(place)
+}
+
+// The first of a file's places that breaks a rule, or their number where none does.
+fn first_broken(file: &[u8], k: u8, n: u8, places: usize) -> usize
+    requires { ⌜ (places < 256) × ((p : ℕ) → p < places → placeStart p + 10 ≤ length (now file)) ⌝ }
+    ensures { λ r. ⌜ r ≡ firstFailing (placeRule (now (file .entry)) k n) places ⌝ }
+{
+    let mut p: usize = 0;
+    while p < places {
+        if !place_holds(file, k, n, p) {
+            return p;
+        }
+        p += 1;
+    }
+    places
+}
+
+// Load's input checks 1 to 6, in order, of any bytes.
+pub fn check_file(file: &[u8]) -> Checked
+    ensures { λ r. ⌜ r ≡ checkFile (now (file .entry)) ⌝ }
+{
+    let len = file.len();
+    if !length_holds(len) {
+        return refuse(1, 0);
+    }
+    let blocks = len / 512;
+    let last = blocks - 1;
+    let wrong = first_wrong(file, blocks);
+    let letters = letters_hold(file);
+    if wrong < blocks {
+        return refuse(2, wrong as u32);
+    }
+    if !letters {
+        return refuse(3, 0);
+    }
+    if !header_holds(file) {
+        return refuse(4, 0);
+    }
+    let k = file[5];
+    let n = file[6];
+    let first = file[7];
+    if blocks != 1 + (widen::to_usize(n) + 50) / 51 {
+        return refuse(5, 0);
+    }
+    let places = 51 * last;
+    let broken = first_broken(file, k, n, places);
+    if broken < places {
+        return refuse(6, broken as u32);
+    }
+    Checked::Accepted(Header {
+        inputs: k,
+        boxes: n,
+        first,
+    })
+}
