@@ -6,7 +6,7 @@ use mathlib.Core.List.{List, [], _∷_, _++_, append-assoc}
 use native.Mathlib.Omega.{arith}
 use lib.ListN.{length, getD, drop, set, length-append}
 use lib.Seq.{drop-cons, set-at, append-snoc}
-use Rattle.format.specs.Bytes.{part}
+use Rattle.boxes.specs.Bytes.{part}
 use Rattle.format.specs.Block.{checksum, seal}
 use Rattle.format.specs.declared.Header.{Header}
 use Rattle.format.proofs.Sums.{check-small}

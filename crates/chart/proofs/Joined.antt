@@ -10,7 +10,7 @@ use native.Mathlib.Omega.{arith}
 use lib.ListN.{length, take, drop, length-append}
 use lib.Seq.{take-at, drop-at}
 use borrow.Rule.Slice.PartMut.{putMid}
-use Rattle.format.specs.Bytes.{part}
+use Rattle.boxes.specs.Bytes.{part}
 use Rattle.chart.specs.Chart.{joined}
 use Rattle.chart.proofs.Lists.{put-front}
 

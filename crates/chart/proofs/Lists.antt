@@ -9,7 +9,7 @@ use native.Mathlib.Omega.{arith}
 use lib.ListN.{length, take, drop, replicate, length-take, length-drop, drop-of-length-le}
 use lib.Seq.{take-length, take-nil, take-at, drop-at, take-all, take-take, drop-drop, drop-append-add}
 use borrow.Rule.Slice.PartMut.{putMid}
-use Rattle.format.specs.Bytes.{part, allZero}
+use Rattle.boxes.specs.Bytes.{part, allZero}
 
 pub length-part : (f : List ℕ) (a size : ℕ) → a + size ≤ length f → length (part f a size) ≡ size
 length-part f a size h = simp (length-take, length-drop) (omega arith)

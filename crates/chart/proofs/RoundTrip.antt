@@ -9,20 +9,24 @@ use native.Mathlib.Nat.{mul-suc}
 use lib.Dec.{eqb}
 use lib.ListN.{length, take, drop, replicate, take-append-drop, drop-of-length-le}
 use lib.Seq.{take-add, take-all, take-take, drop-cons}
-use borrow.Author.Tests.{eqb-true}
-use Rattle.format.specs.Bytes.{at, part}
+use borrow.Author.Tests.{eqb-true, le-leb}
+use Rattle.boxes.specs.Bytes.{at, part}
 use Rattle.format.specs.Block.{checksum, isSealed, seal}
 use Rattle.format.specs.File.{blockOf, blocksFor, headerOf, checkFile}
 use Rattle.format.specs.declared.Header.{Header}
 use Rattle.format.specs.declared.Checked.the-variants as checked
-use Rattle.format.proofs.Bools.{and-left, and-right}
+use Rattle.boxes.proofs.Bools.{and-left, and-right}
 use Rattle.format.proofs.Sums.{check-front}
-use Rattle.format.proofs.Zeros.{zeros-are}
+use Rattle.boxes.proofs.Zeros.{zeros-are}
 use Rattle.format.proofs.Accepted.{Accepted, accepted}
 use Rattle.chart.specs.Chart.{joined, boxBlocks, boxesOf, tableOf, headerBody, bodyOf, fileOf}
-use Rattle.chart.specs.Claims.{ReproducesFile, ReproducesChart}
+use Rattle.chart.specs.WriteBack.{holdsChart, writeBack, bufferAfter}
+use Rattle.chart.specs.declared.Written.the-variants.{Length}
+use Rattle.chart.specs.Claims.{TellsLength, ReproducesFile, ReproducesChart}
 use Rattle.chart.proofs.Lists.{length-part}
-use Rattle.chart.proofs.Joined.{joined-same, joined-piece}
+use Rattle.chart.proofs.Joined.{joined-length, joined-same, joined-piece}
+use Rattle.chart.proofs.Blocks.{length-seal, length-body}
+use Rattle.chart.proofs.Writes.{tells-file, holds-few}
 
 -- A block that holds its check is its first 510 bytes, sealed.
 seal-front : (b : List ℕ) → length b ≡ 512 → isSealed b ≡ true → seal (take 510 b) ≡ b
@@ -86,13 +90,31 @@ joined-blocks f zero = refl
 joined-blocks f (suc m) =
     ap (λ (x : List ℕ). x ++ blockOf f m) (joined-blocks f m) ∙ sym (take-add (512 * m) 512 f) ∙ ap (λ (k : ℕ). take k f) (sym (mul-suc 512 m))
 
-pub reproduces-file : ReproducesFile
+pub file-again : (f : List ℕ) (h : Header) → checkFile f ≡ checked.Accepted h → fileOf h (tableOf f) ≡ f
 unfolding fileOf
-reproduces-file f h e =
+file-again f h e =
     let a = accepted f h e in
     joined-same (λ j. seal (bodyOf h (tableOf f) j)) (blockOf f) (blocksFor (h .boxes)) (block-again f h e)
     ∙ joined-blocks f (blocksFor (h .boxes))
     ∙ take-all (512 * blocksFor (h .boxes)) f (omega (arith, a .long))
 
+pub reproduces-file : ReproducesFile
+unfolding bufferAfter
+reproduces-file f h e = (file-again f h e, back)
+  where
+    back : (buf : List ℕ) → length f ≤ length buf → (writeBack h (length buf) ≡ Length (length f)) × (bufferAfter (Length (length f)) h (tableOf f) buf ≡ f ++ drop (length f) buf)
+    back buf room =
+        let a = accepted f h e in
+        let held : holdsChart h ≡ true = rw (le-leb 1 (h .boxes) (a .some), le-leb (h .boxes) 204 (a .fits)) in (
+          sym (tells-file h (length buf) held (omega (arith, a .long))) ∙ ap Length (sym (a .long)),
+          ap (λ (g : List ℕ). g ++ drop (length f) buf) (file-again f h e),
+        )
+
 pub reproduces-chart : ReproducesChart
-reproduces-chart f h e = (ap checkFile (reproduces-file f h e) ∙ e, ap tableOf (reproduces-file f h e))
+reproduces-chart f h e = (ap checkFile (file-again f h e) ∙ e, ap tableOf (file-again f h e))
+
+pub tells-length : TellsLength
+unfolding fileOf
+tells-length h table held long =
+    let few = holds-few h held in
+    joined-length (λ j. seal (bodyOf h table j)) 512 (blocksFor (h .boxes)) (λ i l. length-seal _ (length-body h table i long (omega arith)))

@@ -8,35 +8,39 @@ use mathlib.Core.Logic.{_⊎_, inl, inr, ⊎-elim}
 use native.Mathlib.Decide.{decLt}
 use native.Mathlib.Omega.{arith}
 use lib.Dec.{eqb, ltb, leb}
-use lib.ListN.{length, take, drop, replicate}
-use lib.Seq.{take-take, drop-drop}
+use lib.ListN.{length, replicate, length-append, length-replicate}
 use borrow.Author.Tests.{eqb-true, ltb-true, leb-true, lt-ltb, le-ltb}
-use Rattle.format.specs.Bytes.{at, part, allZero}
-use Rattle.format.specs.Box.{readable, readsLeft, readsRight, operandRule, assignmentRule, decisionRule, haltRule, wellFormed}
+use Rattle.boxes.specs.Bytes.{at, part, allZero}
+use Rattle.boxes.specs.Box.{readable, readsLeft, readsRight, operandRule, assignmentRule, decisionRule, haltRule, wellFormed}
 use Rattle.format.specs.File.{blocksFor, placeStart, placeOf, placeRule, checkFile}
 use Rattle.format.specs.declared.Header.{Header}
 use Rattle.format.specs.declared.Checked.the-variants as checked
-use Rattle.format.proofs.Bools.{and-left, and-right, or-cases, every}
+use Rattle.boxes.proofs.Bools.{and-left, and-right, or-cases, every}
 use Rattle.format.proofs.Accepted.{Accepted, accepted}
 use Rattle.chart.specs.Chart.{joined, boxBlocks, boxesOf, tableOf, boxOf}
-use Rattle.chart.specs.Claims.{ObeysRules, InRange, assigns, decides, halts, StaysInRange}
+use Rattle.chart.specs.Claims.{ObeysRules, HeaderInRange, BoxInRange, assigns, decides, halts, StaysInRange}
 use Rattle.chart.proofs.Lists.{length-part, part-part, part-zeros}
-use Rattle.chart.proofs.Joined.{joined-length, joined-piece}
+use Rattle.chart.proofs.Joined.{Sized, joined-length, joined-piece}
 use Rattle.chart.proofs.RoundTrip.{box-blocks}
 
 module _ (f : List ℕ) (h : Header) (e : checkFile f ≡ checked.Accepted h) where
+  boxes-sized : (m : ℕ) → m ≤ boxBlocks (length f) → Sized (boxesOf f) 510 m
+  boxes-sized m l i q = let a = accepted f h e in length-part f (512 * (1 + i)) 510 (omega (arith, a .long, box-blocks f h e))
+
+  length-boxes : (m : ℕ) → m ≤ boxBlocks (length f) → length (joined (boxesOf f) m) ≡ 510 * m
+  length-boxes m l = joined-length (boxesOf f) 510 m (boxes-sized m l)
+
   -- Place p of the file is box p of the table.
   box-is-place : (p : ℕ) → p < 51 * (blocksFor (h .boxes) - 1) → boxOf (tableOf f) p ≡ placeOf f p
   unfolding tableOf
   box-is-place p l =
-      let a = accepted f h e in
       let m = boxBlocks (length f) in
       let q = p / 51 in
       let o = 10 * (p % 51) in
       let blocks = box-blocks f h e in
       let there : 10 * p ≡ 510 * q + o = omega arith in
       let here : 512 * (1 + q) + o ≡ placeStart p = omega arith in
-      let piece = joined-piece (boxesOf f) 510 m (replicate (2040 - 510 * m) 0) q (λ i g. length-part f (512 * (1 + i)) 510 (omega (arith, a .long, blocks))) (omega (arith, blocks)) in
+      let piece = joined-piece (boxesOf f) 510 m (replicate (2040 - 510 * m) 0) q (boxes-sized m (omega arith)) (omega (arith, blocks)) in
       ap (λ (x : ℕ). part (tableOf f) x 10) there
       ∙ sym (part-part (tableOf f) (510 * q) 510 o 10 (omega arith))
       ∙ ap (λ (x : List ℕ). part x o 10) piece
@@ -61,14 +65,21 @@ module _ (f : List ℕ) (h : Header) (e : checkFile f ≡ checked.Accepted h) wh
           let holds = rw (le-ltb p (h .boxes) l) at (a .places p within) in
           ap allZero (box-is-place p within) ∙ holds
       on (no past) =
-          let a = accepted f h e in
           let m = boxBlocks (length f) in
           let blocks = box-blocks f h e in
-          let long = joined-length (boxesOf f) 510 m (λ i g. length-part f (512 * (1 + i)) 510 (omega (arith, a .long, blocks))) in
+          let long = length-boxes m (omega arith) in
           part-zeros (joined (boxesOf f) m) (2040 - 510 * m) (10 * p) 10 (omega (arith, long, blocks))
 
+  table-long : length (tableOf f) ≡ 2040
+  unfolding tableOf
+  table-long =
+      let m = boxBlocks (length f) in
+      let blocks = box-blocks f h e in
+      let long = length-boxes m (omega arith) in
+      length-append (joined (boxesOf f) m) (replicate (2040 - 510 * m) 0) ∙ omega (arith, long, length-replicate {A = ℕ} (2040 - 510 * m) 0)
+
 pub obeys-rules : ObeysRules
-obeys-rules f h e p = (obeys f h e p, zeros-past f h e p)
+obeys-rules f h e = (table-long f h e, obeys f h e, zeros-past f h e)
 
 -- The rules, kind by kind.
 readable-below : (k v : ℕ) → k ≤ 16 → readable k v ≡ true → v < 32
@@ -84,7 +95,7 @@ operand-below k true v h e = readable-below k v h e
 operand-below k false v h e = let z = eqb-true v 0 e in omega arith
 
 module _ (k n : ℕ) (b : List ℕ) (few : k ≤ 16) where
-  in-range-assign : assignmentRule k n b ≡ true → InRange n b
+  in-range-assign : assignmentRule k n b ≡ true → BoxInRange n b
   unfolding assignmentRule
   in-range-assign e =
       let r = every (eqb (at b 0) 1) (leb 16 (at b 1) ∷ leb (at b 1) 31 ∷ leb (at b 2) 11 ∷ operandRule k (readsLeft (at b 2)) (at b 3) ∷ operandRule k (readsRight (at b 2)) (at b 4) ∷ ltb (at b 5) n ∷ (eqb (at b 2) 0 || allZero (part b 6 4)) ∷ []) e in
@@ -97,7 +108,7 @@ module _ (k n : ℕ) (b : List ℕ) (few : k ≤ 16) where
       (operand-below k (readsRight (at b 2)) (at b 4) few (r .1 .1 .1 .1 .1 .0))
       (ltb-true (at b 5) n (r .1 .1 .1 .1 .1 .1 .0))
 
-  in-range-decide : decisionRule k n b ≡ true → InRange n b
+  in-range-decide : decisionRule k n b ≡ true → BoxInRange n b
   unfolding decisionRule
   in-range-decide e =
       let r = every (eqb (at b 0) 2) (eqb (at b 1) 0 ∷ leb (at b 2) 2 ∷ readable k (at b 3) ∷ readable k (at b 4) ∷ ltb (at b 5) n ∷ ltb (at b 6) n ∷ allZero (part b 7 3) ∷ []) e in
@@ -109,19 +120,20 @@ module _ (k n : ℕ) (b : List ℕ) (few : k ≤ 16) where
       (ltb-true (at b 5) n (r .1 .1 .1 .1 .1 .0))
       (ltb-true (at b 6) n (r .1 .1 .1 .1 .1 .1 .0))
 
-  in-range-halt : haltRule b ≡ true → InRange n b
+  in-range-halt : haltRule b ≡ true → BoxInRange n b
   unfolding haltRule
   in-range-halt e = halts (eqb-true (at b 0) 3 (and-left (eqb (at b 0) 3) (allZero (part b 1 9)) e))
 
-  pub in-range : wellFormed k n b ≡ true → InRange n b
+  pub in-range : wellFormed k n b ≡ true → BoxInRange n b
   unfolding wellFormed
   in-range e =
+      let kinds = and-right (eqb (length b) 10) (assignmentRule k n b || decisionRule k n b || haltRule b) e in
       ⊎-elim
       (λ d. ⊎-elim in-range-assign in-range-decide (or-cases (assignmentRule k n b) (decisionRule k n b) d))
       in-range-halt
-      (or-cases (assignmentRule k n b || decisionRule k n b) (haltRule b) e)
+      (or-cases (assignmentRule k n b || decisionRule k n b) (haltRule b) kinds)
 
 pub stays-in-range : StaysInRange
 stays-in-range f h e =
     let a = accepted f h e in
-    (a .start, λ p l. in-range (h .inputs) (h .boxes) (boxOf (tableOf f) p) (a .few) (obeys f h e p l))
+    (record { few = a .few; some = a .some; fits = a .fits; start = a .start }, λ p l. in-range (h .inputs) (h .boxes) (boxOf (tableOf f) p) (a .few) (obeys f h e p l))

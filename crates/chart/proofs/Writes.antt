@@ -5,18 +5,19 @@ use mathlib.Core.List.{List}
 use mathlib.Core.Bool.{true, false}
 use lib.Dec.{leb}
 use borrow.Author.Tests.{lt-ltb, le-ltb, leb-true}
+use Rattle.format.specs.File.{refusal}
 use Rattle.format.specs.declared.Header.{Header}
-use Rattle.format.proofs.Bools.{and-right}
-use Rattle.chart.specs.WriteBack.{holdsChart, fileLength, refused, writeBack, bufferAfter}
+use Rattle.boxes.proofs.Bools.{and-right}
+use Rattle.chart.specs.WriteBack.{holdsChart, fileLength, writeBack, bufferAfter}
 use Rattle.chart.specs.declared.Written.{Written}
-use Rattle.chart.specs.declared.Written.the-variants.{Length}
+use Rattle.chart.specs.declared.Written.the-variants.{Length, Refused}
 
 module _ (h : Header) (room : ℕ) where
-  pub tells-none : holdsChart h ≡ false → refused 21 0 ≡ writeBack h room
+  pub tells-none : holdsChart h ≡ false → Refused (refusal 21 0) ≡ writeBack h room
   unfolding writeBack
   tells-none e = rw e
 
-  pub tells-short : holdsChart h ≡ true → room < fileLength h → refused 12 0 ≡ writeBack h room
+  pub tells-short : holdsChart h ≡ true → room < fileLength h → Refused (refusal 12 0) ≡ writeBack h room
   unfolding writeBack
   tells-short e l = rw (e, lt-ltb room (fileLength h) l)
 
@@ -24,7 +25,7 @@ module _ (h : Header) (room : ℕ) where
   unfolding writeBack
   tells-file e l = rw (e, le-ltb room (fileLength h) l)
 
-pub leaves-buffer : (w : Written) (number : ℕ) (h : Header) (table buf : List ℕ) → w ≡ refused number 0 → buf ≡ bufferAfter w h table buf
+pub leaves-buffer : (w : Written) (number : ℕ) (h : Header) (table buf : List ℕ) → w ≡ Refused (refusal number 0) → buf ≡ bufferAfter w h table buf
 unfolding bufferAfter
 leaves-buffer w number h table buf e = rw e
 

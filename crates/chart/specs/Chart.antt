@@ -2,7 +2,7 @@
 use Prim.Native.Nat.{ℕ, zero, suc, _+_, _*_, _-_, _/_, min}
 use mathlib.Core.List.{List, [], _∷_, _++_}
 use lib.ListN.{length, replicate}
-use Rattle.format.specs.Bytes.{part}
+use Rattle.boxes.specs.Bytes.{part}
 use Rattle.format.specs.Block.{seal}
 use Rattle.format.specs.File.{blocksFor}
 use Rattle.format.specs.declared.Header.{Header}

@@ -1,18 +1,31 @@
--- What is claimed of the definitions: the file's half of demand 2, and the ranges of the numbers in a loaded table.
+-- What is claimed of the definitions: the file's half of demand 2, and the ranges of the numbers in a loaded chart.
 use Prim.Native.Nat.{ℕ, _≤_, _<_}
 use mathlib.Core.Path.{_≡_}
-use mathlib.Core.List.{List}
+use mathlib.Core.List.{List, _++_}
 use mathlib.Core.Bool.{true}
-use Rattle.format.specs.Bytes.{at, allZero}
-use Rattle.format.specs.Box.{wellFormed}
+use lib.ListN.{length, drop}
+use Rattle.boxes.specs.Bytes.{at, allZero}
+use Rattle.boxes.specs.Box.{wellFormed}
 use Rattle.format.specs.File.{checkFile}
 use Rattle.format.specs.declared.Header.{Header}
 use Rattle.format.specs.declared.Checked.the-variants.{Accepted}
 use Rattle.chart.specs.Chart.{tableOf, boxOf, fileOf}
+use Rattle.chart.specs.WriteBack.{holdsChart, fileLength, writeBack, bufferAfter}
+use Rattle.chart.specs.declared.Written.the-variants.{Length}
 
--- "Writing back a loaded chart reproduces its file"
+-- "It tells the file's length": the length told is the file's.
+abbrev pub TellsLength : Type 0
+TellsLength = (h : Header) (table : List ℕ) → holdsChart h ≡ true → length table ≡ 2040 → length (fileOf h table) ≡ fileLength h
+
+-- "Writing back a loaded chart reproduces its file": its bytes, and so what write back tells and leaves where there is room.
 abbrev pub ReproducesFile : Type 0
-ReproducesFile = (f : List ℕ) (h : Header) → checkFile f ≡ Accepted h → fileOf h (tableOf f) ≡ f
+ReproducesFile =
+    (f : List ℕ) (h : Header)
+    → checkFile f ≡ Accepted h
+    → (fileOf h (tableOf f) ≡ f)
+    × ((buf : List ℕ)
+    → length f ≤ length buf
+    → (writeBack h (length buf) ≡ Length (length f)) × (bufferAfter (Length (length f)) h (tableOf f) buf ≡ f ++ drop (length f) buf))
 
 -- "and loading that file reproduces the chart."
 abbrev pub ReproducesChart : Type 0
@@ -21,24 +34,31 @@ ReproducesChart =
     → checkFile f ≡ Accepted h
     → (checkFile (fileOf h (tableOf f)) ≡ Accepted h) × (tableOf (fileOf h (tableOf f)) ≡ tableOf f)
 
--- The boxes of a loaded table obey the box rules, and the places past them are zero.
+-- The boxes of a loaded table, 204 places of ten bytes, obey the box rules, and the places past them are zero.
 abbrev pub ObeysRules : Type 0
 ObeysRules =
     (f : List ℕ) (h : Header)
     → checkFile f ≡ Accepted h
-    → (p : ℕ)
-    → (p < h .boxes → wellFormed (h .inputs) (h .boxes) (boxOf (tableOf f) p) ≡ true)
-    × (h .boxes ≤ p → allZero (boxOf (tableOf f) p) ≡ true)
+    → (length (tableOf f) ≡ 2040)
+    × ((p : ℕ) → p < h .boxes → wellFormed (h .inputs) (h .boxes) (boxOf (tableOf f) p) ≡ true)
+    × ((p : ℕ) → h .boxes ≤ p → allZero (boxOf (tableOf f) p) ≡ true)
+
+-- The numbers in a header.
+pub record HeaderInRange (h : Header) : Type 0 where
+  pub few : h .inputs ≤ 16
+  pub some : 1 ≤ h .boxes
+  pub fits : h .boxes ≤ 204
+  pub start : h .first < h .boxes
 
 -- The numbers in a box of a chart of n boxes: a kind 1 to 3, operands and targets below 32, next boxes below n.
-pub data InRange (n : ℕ) (b : List ℕ) : Type 0 where
-  assigns : at b 0 ≡ 1 → 16 ≤ at b 1 → at b 1 < 32 → at b 2 ≤ 11 → at b 3 < 32 → at b 4 < 32 → at b 5 < n → InRange n b
-  decides : at b 0 ≡ 2 → at b 2 ≤ 2 → at b 3 < 32 → at b 4 < 32 → at b 5 < n → at b 6 < n → InRange n b
-  halts : at b 0 ≡ 3 → InRange n b
+pub data BoxInRange (n : ℕ) (b : List ℕ) : Type 0 where
+  assigns : at b 0 ≡ 1 → 16 ≤ at b 1 → at b 1 < 32 → at b 2 ≤ 11 → at b 3 < 32 → at b 4 < 32 → at b 5 < n → BoxInRange n b
+  decides : at b 0 ≡ 2 → at b 2 ≤ 2 → at b 3 < 32 → at b 4 < 32 → at b 5 < n → at b 6 < n → BoxInRange n b
+  halts : at b 0 ≡ 3 → BoxInRange n b
 
--- The numbers in every box of a loaded table are in range, and so is the first box.
+-- The numbers in the header and in every box of a loaded chart are in range.
 abbrev pub StaysInRange : Type 0
 StaysInRange =
     (f : List ℕ) (h : Header)
     → checkFile f ≡ Accepted h
-    → (h .first < h .boxes) × ((p : ℕ) → p < h .boxes → InRange (h .boxes) (boxOf (tableOf f) p))
+    → HeaderInRange h × ((p : ℕ) → p < h .boxes → BoxInRange (h .boxes) (boxOf (tableOf f) p))

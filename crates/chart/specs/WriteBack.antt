@@ -5,7 +5,7 @@ use mathlib.Core.List.{List, _++_}
 use mathlib.Core.Bool.{Bool, cond, not, _&&_}
 use lib.Dec.{leb, ltb}
 use lib.ListN.{length, drop}
-use Rattle.format.specs.File.{blocksFor}
+use Rattle.format.specs.File.{blocksFor, refusal}
 use Rattle.format.specs.declared.Header.{Header}
 use Rattle.chart.specs.Chart.{fileOf}
 use Rattle.chart.specs.declared.Written.{Written}
@@ -19,16 +19,12 @@ holdsChart h = leb 1 (h .boxes) && leb (h .boxes) 204
 abbrev pub fileLength : Header → ℕ
 fileLength h = 512 * blocksFor (h .boxes)
 
--- A refusal by document 01's number and detail.
-abbrev pub refused : ℕ → ℕ → Written
-refused number detail = Refused (record { number = number; detail = detail })
-
 -- What write back tells of a buffer of so many bytes. "Write back: 21, 12": "21: no chart held"; "12: the buffer for writing back is shorter
 -- than the file".
 unfoldable pub writeBack : Header → ℕ → Written
 writeBack h room =
-    cond (not (holdsChart h)) (refused 21 0)
-    (cond (ltb room (fileLength h)) (refused 12 0)
+    cond (not (holdsChart h)) (Refused (refusal 21 0))
+    (cond (ltb room (fileLength h)) (Refused (refusal 12 0))
     (Length (fileLength h)))
 
 -- The buffer after write back has told that: the file at its front, or on refusal the buffer as it was.

@@ -7,10 +7,10 @@ ghost use mathlib.Core.List.{_++_};
 ghost use Prim.Native.Nat.{_*_, _≤_};
 ghost use lib.ListN.{length, drop};
 ghost use Rattle.format.specs.Block.{seal};
-ghost use Rattle.format.specs.File.{blocksFor};
-ghost use Rattle.chart.specs.Chart.{joined, boxBlocks, tableOf, headerBody, bodyOf, fileOf};
-ghost use Rattle.chart.specs.WriteBack.{holdsChart, refused, writeBack, bufferAfter};
-ghost use Rattle.chart.specs.ShowBox.{showBox};
+ghost use Rattle.format.specs.File.{blocksFor, refusal};
+ghost use Rattle.chart.specs.Chart.{boxBlocks, tableOf, headerBody, bodyOf, fileOf};
+ghost use Rattle.chart.specs.WriteBack.{holdsChart, writeBack, bufferAfter};
+ghost use Rattle.chart.specs.ShowBox.{showBox, IsPart};
 
 // What write back tells.
 pub enum Written {
@@ -19,7 +19,7 @@ pub enum Written {
 }
 
 fn refuse(number: u32) -> Written
-    ensures { λ r. ⌜ r ≡ refused number 0 ⌝ }
+    ensures { λ r. ⌜ r ≡ Written.Refused (refusal number 0) ⌝ }
 {
     Written::Refused(Refusal { number, detail: 0 })
 }
@@ -54,7 +54,7 @@ pub fn table_of(file: &[u8]) -> [u8; 2040]
     table
 }
 
-// The block of 510 bytes, into the front of a part.
+// The block whose bytes 0 to 509 are these, into the front of a part.
 fn write_block(part: &mut [u8], body: &[u8])
     requires { ⌜ (length (now body) ≡ 510) × (512 ≤ length (now part)) ⌝ }
     ensures { λ _. ⌜ now (part .exit) ≡ seal (now (body .entry)) ++ drop 512 (now (part .entry)) ⌝ }
@@ -134,7 +134,7 @@ pub fn write_back(header: Header, table: &[u8; 2040], buf: &mut [u8]) -> Written
 
 // The ten bytes of a box as a part of the lent file; an empty part where load would refuse the file or no box has the number.
 pub fn show_box(file: &[u8], number: u32) -> &[u8]
-    ensures { λ r. ⌜ now r ≡ showBox (now (file .entry)) number ⌝ }
+    ensures { λ r. ⌜ IsPart (showBox (now (file .entry)) number) (file .entry) r ⌝ }
 {
     let checked = format::check_file(file);
     match checked {

@@ -1,11 +1,11 @@
 -- Charts A to E of document 01, as files. The two bytes of each check are written out, not computed by the definitions.
-use Prim.Native.Nat.{ℕ, _-_}
+use Prim.Native.Nat.{ℕ, zero, suc, _-_}
 use mathlib.Core.List.{List, [], _∷_, _++_}
 use lib.ListN.{length, replicate}
 
 -- A block: bytes at its front, zeros up to byte 509, and the check, low byte first.
 abbrev pub block : List ℕ → ℕ → ℕ → List ℕ
-block front low high = front ++ replicate (510 - length front) 0 ++ (low ∷ high ∷ [])
+block bytes low high = bytes ++ replicate (510 - length bytes) 0 ++ (low ∷ high ∷ [])
 
 -- The front of block 0: the letters, the edition, k, n and the first box.
 abbrev pub front : ℕ → ℕ → ℕ → List ℕ
@@ -20,6 +20,11 @@ decide comparison left right next other = 2 ∷ 0 ∷ comparison ∷ left ∷ ri
 
 abbrev pub halt : List ℕ
 halt = 3 ∷ replicate 9 0
+
+-- So many halts.
+abbrev pub halts : ℕ → List ℕ
+halts zero = []
+halts (suc n) = halt ++ halts n
 
 -- "A, k 2: 31 copies 0; 31 copies 1."
 unfoldable pub chartA : List ℕ

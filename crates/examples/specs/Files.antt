@@ -1,13 +1,13 @@
 -- What load's input checks answer: charts A to E, and files that break one rule each or several.
 use Prim.Native.Nat.{ℕ}
 use mathlib.Core.Path.{_≡_}
-use mathlib.Core.List.{List, [], _∷_, _++_}
+use mathlib.Core.List.{List, [], _∷_, _++_, map}
 use lib.ListN.{take, replicate, set}
 use Rattle.format.specs.Block.{checksum}
-use Rattle.format.specs.File.{refused, checkFile}
+use Rattle.format.specs.File.{refusal, checkFile}
 use Rattle.format.specs.declared.Checked.{Checked}
-use Rattle.format.specs.declared.Checked.the-variants.{Accepted}
-use Rattle.examples.specs.Charts.{block, front, assign, halt, chartA, chartB, chartC, chartD, headE, boxesE, chartE}
+use Rattle.format.specs.declared.Checked.the-variants.{Accepted, Refused}
+use Rattle.examples.specs.Charts.{block, front, assign, halt, halts, chartA, chartB, chartC, chartD, headE, boxesE, chartE}
 
 -- A file and the answer of the checks.
 pub record FileCase : Type 0 where
@@ -17,8 +17,11 @@ pub record FileCase : Type 0 where
 abbrev pub case : List ℕ → Checked → FileCase
 case file answer = record { file = file; answer = answer }
 
-abbrev pub chart : ℕ → ℕ → ℕ → Checked
-chart k n first = Accepted (record { inputs = k; boxes = n; first = first })
+abbrev accepted : ℕ → ℕ → ℕ → Checked
+accepted k n first = Accepted (record { inputs = k; boxes = n; first = first })
+
+abbrev refused : ℕ → ℕ → Checked
+refused number detail = Refused (refusal number detail)
 
 -- Chart E with another block 0, or other boxes.
 abbrev withHead : List ℕ → ℕ → ℕ → List ℕ
@@ -27,19 +30,25 @@ withHead head low high = block head low high ++ boxesE
 abbrev withBoxes : List ℕ → ℕ → ℕ → List ℕ
 withBoxes boxes low high = headE ++ block boxes low high
 
+-- A chart of 52 halts, with another block 2.
+abbrev with52 : List ℕ → ℕ → ℕ → List ℕ
+with52 boxes low high = block (front 1 52 0) 158 4 ++ block (halts 51) 3 150 ++ block boxes low high
+
 unfoldable pub fileCases : List FileCase
 fileCases =
-    case chartA (chart 2 3 0)
-    ∷ case chartB (chart 1 4 0)
-    ∷ case chartC (chart 0 1 0)
-    ∷ case chartD (chart 1 2 0)
-    ∷ case chartE (chart 1 2 0)
+    case chartA (accepted 2 3 0)
+    ∷ case chartB (accepted 1 4 0)
+    ∷ case chartC (accepted 0 1 0)
+    ∷ case chartD (accepted 1 2 0)
+    ∷ case chartE (accepted 1 2 0)
+    ∷ case (with52 halt 3 0) (accepted 1 52 0)
     -- 1: no bytes; a byte too few
     ∷ case [] (refused 1 0)
     ∷ case (take 1023 chartE) (refused 1 0)
     -- 2: block 1 alone; both blocks, and the letters too
     ∷ case (set chartE 518 6) (refused 2 1)
     ∷ case (set (set chartE 518 6) 0 71) (refused 2 0)
+    ∷ case (with52 halt 4 0) (refused 2 2)
     -- 3: a letter; the edition
     ∷ case (withHead (set (front 1 2 0) 0 71) 65 3) (refused 3 0)
     ∷ case (withHead (set (front 1 2 0) 4 2) 69 3) (refused 3 0)
@@ -56,12 +65,13 @@ fileCases =
     ∷ case (withBoxes (assign 31 1 0 16 1 0 ++ halt) 185 0) (refused 6 0)
     ∷ case (withBoxes (assign 31 1 0 0 1 1 ++ halt) 112 0) (refused 6 0)
     ∷ case (withBoxes (assign 31 0 0 0 1 5 ++ halt ++ halt) 200 0) (refused 6 2)
+    ∷ case (with52 (4 ∷ []) 4 0) (refused 6 51)
+    ∷ case (with52 (halt ++ (1 ∷ [])) 14 0) (refused 6 52)
     ∷ []
 
 -- The checks answer each file so.
 abbrev pub AnsweredSo : List FileCase → Type 0
-AnsweredSo [] = Unit {0}
-AnsweredSo (c ∷ cs) = (checkFile (c .file) ≡ c .answer) × AnsweredSo cs
+AnsweredSo cases = map (λ (c : FileCase). checkFile (c .file)) cases ≡ map (λ (c : FileCase). c .answer) cases
 
 -- "Checks: block 0 has 832, block 1 has 137", and the table.
 abbrev pub FileExamples : Type 0

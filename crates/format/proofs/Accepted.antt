@@ -8,13 +8,14 @@ use native.Mathlib.Omega.{arith}
 use lib.Dec.{eqb, ltb, leb}
 use lib.ListN.{length}
 use borrow.Author.Tests.{eqb-true, ltb-true, leb-true, not-false}
-use Rattle.format.specs.Bytes.{at, part, allZero, firstFailing}
+use Rattle.boxes.specs.Bytes.{at, part, allZero}
+use Rattle.format.specs.Search.{firstFailing}
 use Rattle.format.specs.Block.{isSealed}
-use Rattle.format.specs.File.{blockOf, blocksFor, headerOf, lengthRule, lettersRule, headerRule, placeRule, refused, checkFile}
+use Rattle.format.specs.File.{blockOf, blocksFor, headerOf, lengthRule, lettersRule, headerRule, placeRule, refusal, checkFile}
 use Rattle.format.specs.declared.Header.{Header}
 use Rattle.format.specs.declared.Checked.{Checked}
 use Rattle.format.specs.declared.Checked.the-variants as checked
-use Rattle.format.proofs.Bools.{every}
+use Rattle.boxes.proofs.Bools.{every}
 use Rattle.format.proofs.Search.{all-hold}
 use Rattle.format.proofs.Places.{Blocks, blocks-of}
 
@@ -39,7 +40,7 @@ pub record Accepted (f : List ℕ) (h : Header) : Type 0 where
   pub places : (p : ℕ) → p < 51 * (blocksFor (h .boxes) - 1) → placeRule f (h .inputs) (h .boxes) p ≡ true
 
 -- A check that a file passed did not refuse it.
-passed : (b : Bool) {x : Checked} (number detail : ℕ) {h : Header} → cond b (refused number detail) x ≡ checked.Accepted h → (b ≡ false) × (x ≡ checked.Accepted h)
+passed : (b : Bool) {x : Checked} (number detail : ℕ) {h : Header} → cond b (checked.Refused (refusal number detail)) x ≡ checked.Accepted h → (b ≡ false) × (x ≡ checked.Accepted h)
 passed true number detail e = let z : _≡_ {A = ℕ} 0 1 = cc in absurd (omega arith)
 passed false number detail e = (refl, e)
 

@@ -5,10 +5,11 @@ use mathlib.Core.List.{List}
 use mathlib.Core.Bool.{true, false}
 use lib.ListN.{length}
 use borrow.Author.Tests.{lt-ltb, le-ltb, eq-eqb, ne-eqb}
-use Rattle.format.specs.Bytes.{at, firstFailing}
+use Rattle.boxes.specs.Bytes.{at}
+use Rattle.format.specs.Search.{firstFailing}
 use Rattle.format.specs.Block.{isSealed}
-use Rattle.format.specs.File.{blockOf, blocksFor, headerOf, lengthRule, lettersRule, headerRule, placeRule, refused, checkFile}
-use Rattle.format.specs.declared.Checked.the-variants.{Accepted}
+use Rattle.format.specs.File.{blockOf, blocksFor, headerOf, lengthRule, lettersRule, headerRule, placeRule, refusal, checkFile}
+use Rattle.format.specs.declared.Checked.the-variants.{Accepted, Refused}
 
 -- The names of checkFile's definition.
 module _ (f : List ℕ) where
@@ -25,22 +26,22 @@ module _ (f : List ℕ) where
   broken = firstFailing (placeRule f (at f 5) (at f 6)) places
 
 module _ (f : List ℕ) where
-  pub tells-length : lengthRule (length f) ≡ false → refused 1 0 ≡ checkFile f
+  pub tells-length : lengthRule (length f) ≡ false → Refused (refusal 1 0) ≡ checkFile f
   unfolding checkFile
   tells-length e = rw e
 
 module _ (f : List ℕ) (one : lengthRule (length f) ≡ true) where
-  pub tells-check : wrong f < blocks f → refused 2 (wrong f) ≡ checkFile f
+  pub tells-check : wrong f < blocks f → Refused (refusal 2 (wrong f)) ≡ checkFile f
   unfolding checkFile
   tells-check l = rw (one, lt-ltb (wrong f) (blocks f) l)
 
 module _ (f : List ℕ) (one : lengthRule (length f) ≡ true) (two : blocks f ≤ wrong f) where
-  pub tells-letters : lettersRule f ≡ false → refused 3 0 ≡ checkFile f
+  pub tells-letters : lettersRule f ≡ false → Refused (refusal 3 0) ≡ checkFile f
   unfolding checkFile
   tells-letters e = rw (one, le-ltb (wrong f) (blocks f) two, e)
 
 module _ (f : List ℕ) (one : lengthRule (length f) ≡ true) (two : blocks f ≤ wrong f) (three : lettersRule f ≡ true) where
-  pub tells-header : headerRule f ≡ false → refused 4 0 ≡ checkFile f
+  pub tells-header : headerRule f ≡ false → Refused (refusal 4 0) ≡ checkFile f
   unfolding checkFile
   tells-header e = rw (one, le-ltb (wrong f) (blocks f) two, three, e)
 
@@ -52,12 +53,12 @@ pub record Past (f : List ℕ) : Type 0 where
   pub four : headerRule f ≡ true
 
 module _ (f : List ℕ) (p : Past f) where
-  pub tells-size : (blocks f ≡ blocksFor (at f 6) → ⊥) → refused 5 0 ≡ checkFile f
+  pub tells-size : (blocks f ≡ blocksFor (at f 6) → ⊥) → Refused (refusal 5 0) ≡ checkFile f
   unfolding checkFile
   tells-size d = rw (p .one, le-ltb (wrong f) (blocks f) (p .two), p .three, p .four, ne-eqb (blocks f) (blocksFor (at f 6)) d)
 
   module _ (five : blocks f ≡ blocksFor (at f 6)) where
-    pub tells-place : broken f < places f → refused 6 (broken f) ≡ checkFile f
+    pub tells-place : broken f < places f → Refused (refusal 6 (broken f)) ≡ checkFile f
     unfolding checkFile
     tells-place l =
         rw (p .one, le-ltb (wrong f) (blocks f) (p .two), p .three, p .four, eq-eqb (blocks f) (blocksFor (at f 6)) five, lt-ltb (broken f) (places f) l)

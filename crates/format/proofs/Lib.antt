@@ -1,6 +1,4 @@
 -- Laws of the definitions in specs/ that the proofs cite.
-pub mod Bools
-pub mod Zeros
 pub mod Search
 pub mod Sums
 pub mod Places

@@ -9,9 +9,9 @@ use native.Mathlib.Omega.{arith}
 use lib.Dec.{eqb}
 use lib.ListN.{length, take, drop}
 use borrow.Author.Tests.{eqb-true}
-use Rattle.format.specs.Bytes.{part}
+use Rattle.boxes.specs.Bytes.{part}
 use Rattle.format.specs.File.{lengthRule, placeStart}
-use Rattle.format.proofs.Bools.{or-cases}
+use Rattle.boxes.proofs.Bools.{or-cases}
 
 -- A part whose end is written as its start and its size.
 pub part-to : (f : List ℕ) (a size : ℕ) → take (a + size - a) (drop a f) ≡ part f a size

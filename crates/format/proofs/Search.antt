@@ -9,7 +9,7 @@ use native.Mathlib.Nat.{sub-zero, eq-or-lt-of-le}
 use native.Mathlib.Omega.{arith}
 use lib.Dec.{ltb}
 use borrow.Author.Tests.{ltb-false}
-use Rattle.format.specs.Bytes.{firstFrom, firstFailing}
+use Rattle.format.specs.Search.{firstFrom, firstFailing}
 
 module _ (test : ℕ → Bool) (count : ℕ) where
   -- What the search still has to look at, from i on.

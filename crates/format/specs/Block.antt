@@ -5,7 +5,7 @@ use mathlib.Core.List.{List, [], _∷_, _++_}
 use mathlib.Core.Bool.{Bool, _&&_}
 use lib.Dec.{eqb}
 use lib.ListN.{take}
-use Rattle.format.specs.Bytes.{at}
+use Rattle.boxes.specs.Bytes.{at}
 
 -- The sum of (position + 1) times byte, where the first byte has position i.
 unfoldable pub weighted : ℕ → List ℕ → ℕ
@@ -20,6 +20,6 @@ checksum block = weighted 0 (take 510 block) % 65536
 unfoldable pub isSealed : List ℕ → Bool
 isSealed block = eqb (at block 510) (checksum block % 256) && eqb (at block 511) (checksum block / 256)
 
--- The block of 510 bytes: they and their check.
+-- The block whose bytes 0 to 509 are these: they and their check.
 unfoldable pub seal : List ℕ → List ℕ
 seal body = body ++ (checksum body % 256 ∷ checksum body / 256 ∷ [])

@@ -1,19 +1,25 @@
--- The chart file as load's input checks 1 to 6 see it.
+-- The chart file as load's input checks 1 to 6 see it. A rule is true of a file that keeps it; the refusal that it stands for is quoted.
 use Prim.Native.Nat.{ℕ, _+_, _*_, _-_, _/_, _%_}
 use mathlib.Core.List.{List}
 use mathlib.Core.Bool.{Bool, cond, not, _&&_, _||_}
 use lib.Dec.{eqb, ltb, leb}
 use lib.ListN.{length}
-use Rattle.format.specs.Bytes.{at, part, allZero, firstFailing}
+use Rattle.boxes.specs.Bytes.{at, part, allZero}
+use Rattle.format.specs.Search.{firstFailing}
 use Rattle.format.specs.Block.{isSealed}
-use Rattle.format.specs.Box.{wellFormed}
+use Rattle.boxes.specs.Box.{wellFormed}
 use Rattle.format.specs.declared.Header.{Header}
+use Rattle.format.specs.declared.Refusal.{Refusal}
 use Rattle.format.specs.declared.Checked.{Checked}
 use Rattle.format.specs.declared.Checked.the-variants.{Accepted, Refused}
 
 -- Block j of a file: "blocks of 512 bytes".
 abbrev pub blockOf : List ℕ → ℕ → List ℕ
 blockOf f j = part f (512 * j) 512
+
+-- Block 0: "byte 5 the number of inputs k"; "byte 6 the number of boxes n"; "byte 7 the first box run".
+abbrev pub headerOf : List ℕ → Header
+headerOf f = record { inputs = at f 5; boxes = at f 6; first = at f 7 }
 
 -- "Each later block holds 51 boxes of ten bytes, box 0 first": where place p starts, and its ten bytes.
 abbrev pub placeStart : ℕ → ℕ
@@ -26,13 +32,9 @@ placeOf f p = part f (placeStart p) 10
 abbrev pub blocksFor : ℕ → ℕ
 blocksFor n = 1 + (n + 50) / 51
 
--- Block 0: "byte 5 the number of inputs k"; "byte 6 the number of boxes n"; "byte 7 the first box run".
-abbrev pub headerOf : List ℕ → Header
-headerOf f = record { inputs = at f 5; boxes = at f 6; first = at f 7 }
-
 -- "1: file length isn't 1,024, 1,536, 2,048 or 2,560."
 abbrev pub lengthRule : ℕ → Bool
-lengthRule n = eqb n 1024 || eqb n 1536 || eqb n 2048 || eqb n 2560
+lengthRule bytes = eqb bytes 1024 || eqb bytes 1536 || eqb bytes 2048 || eqb bytes 2560
 
 -- "3: the letters or the edition are wrong." The letters are FLOW, the edition is 1.
 abbrev pub lettersRule : List ℕ → Bool
@@ -43,13 +45,13 @@ unfoldable pub headerRule : List ℕ → Bool
 headerRule f =
     leb (at f 5) 16 && leb 1 (at f 6) && leb (at f 6) 204 && ltb (at f 7) (at f 6) && allZero (part f 8 502)
 
--- "6: a box, or a place after the last box, breaks a rule." "Places from n on are all 0."
+-- "6: a box, or a place after the last box, breaks a rule." "places from n on are all 0".
 unfoldable pub placeRule : List ℕ → ℕ → ℕ → ℕ → Bool
 placeRule f k n p = cond (ltb p n) (wellFormed k n (placeOf f p)) (allZero (placeOf f p))
 
 -- A refusal by document 01's number and detail.
-abbrev pub refused : ℕ → ℕ → Checked
-refused number detail = Refused (record { number = number; detail = detail })
+abbrev pub refusal : ℕ → ℕ → Refusal
+refusal number detail = record { number = number; detail = detail }
 
 -- Load's input checks, "1 to 6 in order": "2: a block's check differs. Detail: the first such block." "5: the length doesn't fit n." "6: ..
 -- Detail: the first such place."
@@ -59,10 +61,10 @@ checkFile f =
     let wrong = firstFailing (λ j. isSealed (blockOf f j)) blocks in
     let places = 51 * (blocks - 1) in
     let broken = firstFailing (placeRule f (at f 5) (at f 6)) places in
-    cond (not (lengthRule (length f))) (refused 1 0)
-    (cond (ltb wrong blocks) (refused 2 wrong)
-    (cond (not (lettersRule f)) (refused 3 0)
-    (cond (not (headerRule f)) (refused 4 0)
-    (cond (not (eqb blocks (blocksFor (at f 6)))) (refused 5 0)
-    (cond (ltb broken places) (refused 6 broken)
+    cond (not (lengthRule (length f))) (Refused (refusal 1 0))
+    (cond (ltb wrong blocks) (Refused (refusal 2 wrong))
+    (cond (not (lettersRule f)) (Refused (refusal 3 0))
+    (cond (not (headerRule f)) (Refused (refusal 4 0))
+    (cond (not (eqb blocks (blocksFor (at f 6)))) (Refused (refusal 5 0))
+    (cond (ltb broken places) (Refused (refusal 6 broken))
     (Accepted (headerOf f)))))))

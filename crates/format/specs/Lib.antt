@@ -1,5 +1,4 @@
--- The chart file's rules, in document 01's order: words for bytes, a block and its check, a box, load's input checks.
-pub mod Bytes
+-- The chart file's rules, in document 01's order: a block and its check, the first number that fails a test, load's input checks.
 pub mod Block
-pub mod Box
+pub mod Search
 pub mod File

@@ -1,17 +1,14 @@
 // The chart file's rules: what load's input checks 1 to 6 answer of any bytes.
 mod block;
-mod boxes;
 
 pub use block::checksum;
 use block::is_sealed;
-use boxes::all_zero;
-use boxes::well_formed;
 ghost use mathlib.Core.Path.{_≡_};
 ghost use Prim.Native.Nat.{ℕ, _+_, _*_, _<_, _≤_};
 ghost use lib.ListN.{length};
-ghost use Rattle.format.specs.Bytes.{firstFailing};
+ghost use Rattle.format.specs.Search.{firstFailing};
 ghost use Rattle.format.specs.Block.{isSealed};
-ghost use Rattle.format.specs.File.{blockOf, placeStart, lengthRule, lettersRule, headerRule, placeRule, refused, checkFile};
+ghost use Rattle.format.specs.File.{blockOf, placeStart, lengthRule, lettersRule, headerRule, placeRule, refusal, checkFile};
 
 // A refusal, by document 01's number and detail.
 pub struct Refusal {
@@ -33,7 +30,7 @@ pub enum Checked {
 }
 
 fn refuse(number: u32, detail: u32) -> Checked
-    ensures { λ r. ⌜ r ≡ refused number detail ⌝ }
+    ensures { λ r. ⌜ r ≡ Checked.Refused (refusal number detail) ⌝ }
 {
     Checked::Refused(Refusal { number, detail })
 }
@@ -59,7 +56,7 @@ fn header_holds(file: &[u8]) -> bool
         & (1 <= file[6])
         & (file[6] <= 204)
         & (file[7] < file[6])
-        & all_zero(&file[8..510])
+        & boxes::all_zero(&file[8..510])
 }
 
 // The first of a file's blocks whose check differs, or their number where none does.
@@ -88,9 +85,9 @@ fn place_holds(file: &[u8], k: u8, n: u8, p: usize) -> bool
     let end = start + 10;
     let place = &file[start..end];
     if p < widen::to_usize(n) {
-        return well_formed(k, n, place);
+        return boxes::well_formed(k, n, place);
     }
-    all_zero(place)
+    boxes::all_zero(place)
 }
 
 // The first of a file's places that breaks a rule, or their number where none does.
@@ -117,13 +114,11 @@ pub fn check_file(file: &[u8]) -> Checked
         return refuse(1, 0);
     }
     let blocks = len / 512;
-    let last = blocks - 1;
     let wrong = first_wrong(file, blocks);
-    let letters = letters_hold(file);
     if wrong < blocks {
         return refuse(2, wrong as u32);
     }
-    if !letters {
+    if !letters_hold(file) {
         return refuse(3, 0);
     }
     if !header_holds(file) {
@@ -135,7 +130,7 @@ pub fn check_file(file: &[u8]) -> Checked
     if blocks != 1 + (widen::to_usize(n) + 50) / 51 {
         return refuse(5, 0);
     }
-    let places = 51 * last;
+    let places = 51 * (blocks - 1);
     let broken = first_broken(file, k, n, places);
     if broken < places {
         return refuse(6, broken as u32);

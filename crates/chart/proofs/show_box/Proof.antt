@@ -1,5 +1,5 @@
 -- `show_box` goes by the answer of the checks; each return cites what show a box returns there.
-use mathlib.Core.Path.{_≡_, sym, _∙_}
+use mathlib.Core.Path.{_≡_, refl, sym, _∙_}
 use native.Mathlib.Omega.{arith}
 use denote.Ref.{now}
 use Rattle.format.specs.File.{placeStart, checkFile}
@@ -53,7 +53,8 @@ part-result-end c =
 returns : tie.Need-returns
 returns c =
     let a = c .before .before .before .before .before .before .before .before .args in
-    part-to (now (a .file)) (placeStart (a .number)) 10 ∙ shows-box (now (a .file)) (a .number) _ (is-chart (c .before .before .before .before)) (omega arith)
+    rw (shows-box (now (a .file)) (a .number) _ (is-chart (c .before .before .before .before)) (omega arith))
+    (part-to (now (a .file)) (placeStart (a .number)) 10, refl)
 
 sub-result-2 : tie.Need-sub-result-2
 sub-result-2 c = search needs
@@ -79,12 +80,12 @@ part-result-end-3 c = search needs
 returns-2 : tie.Need-returns-2
 returns-2 c =
     let a = c .before .before .before .before .before .before .before .before .args in
-    shows-none (now (a .file)) (a .number) _ (is-chart (c .before .before .before .before)) (omega arith)
+    rw (shows-none (now (a .file)) (a .number) _ (is-chart (c .before .before .before .before)) (omega arith)) (refl, refl)
 
 returns-3 : tie.Need-returns-3
 returns-3 c =
     let a = c .before .before .before .before .before .args in
-    shows-refused (now (a .file)) (a .number) _ (sym (c .before .before .before .check-file .ensures) ∙ c .before .enum-told .given .1)
+    rw (shows-refused (now (a .file)) (a .number) _ (sym (c .before .before .before .check-file .ensures) ∙ c .before .enum-told .given .1)) (refl, refl)
 
 pub show-box-spec : {M : Type 1} → statement M
 show-box-spec =

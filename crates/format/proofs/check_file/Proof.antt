@@ -1,14 +1,15 @@
 -- `check_file` tests in the definition's order: each place of the code knows which checks the file has passed, and each return cites what
 -- checkFile tells there.
-use Prim.Native.Nat.{_*_, _/_, _≤_}
+use Prim.Native.Nat.{ℕ, _≤_}
 use mathlib.Core.Path.{_≡_, ap, sym, _∙_}
 use mathlib.Core.Bool.{true}
 use native.Mathlib.Omega.{arith}
 use lib.ListN.{length}
 use denote.Ref.{now}
 use borrow.Author.Tests.{not-true, not-false}
-use Rattle.format.specs.Bytes.{at}
-use Rattle.format.specs.File.{lengthRule, lettersRule, blocksFor, refused}
+use Rattle.boxes.specs.Bytes.{at}
+use Rattle.format.specs.File.{lengthRule, lettersRule, blocksFor, refusal}
+use Rattle.format.specs.declared.Checked.the-variants.{Refused}
 use Rattle.format.proofs.Places.{Blocks, blocks-of}
 use Rattle.format.proofs.Checks.{blocks, wrong, Past, tells-length, tells-check, tells-letters, tells-header, tells-size, tells-place, tells-chart}
 use borrow.Author.Needs.{needs}
@@ -21,17 +22,17 @@ one c = sym (c .before .length-holds .ensures) ∙ not-false _ (c .if1 .left)
 whole : (c : tie.Else1) → Blocks (length (now (c .before .before .before .args .file)))
 whole c = blocks-of _ (one c)
 
-two : (c : tie.Else2) → let f = now (c .before .before .before .before .before .before .args .file) in blocks f ≤ wrong f
-two c = omega (arith, c .before .before .first-wrong .ensures, c .if2 .left)
+two : (c : tie.Else2) → let f = now (c .before .before .before .before .before .args .file) in blocks f ≤ wrong f
+two c = omega (arith, c .before .first-wrong .ensures, c .if2 .left)
 
 three : (c : tie.Else3) → lettersRule (now (c .before .before .before .before .before .before .before .args .file)) ≡ true
-three c = sym (c .before .before .letters-hold .ensures) ∙ not-false _ (c .if3 .left)
+three c = sym (c .before .letters-hold .ensures) ∙ not-false _ (c .if3 .left)
 
 past : (c : tie.Else4) → Past (now (c .before .before .before .before .before .before .before .before .before .args .file))
 past c =
     record {
       one = one (c .before .before .before .before .before .before);
-      two = two (c .before .before .before);
+      two = two (c .before .before .before .before);
       three = three (c .before .before);
       four = sym (c .before .header-holds .ensures) ∙ not-false _ (c .if4 .left);
     }
@@ -48,17 +49,11 @@ refuse-requires c κs = search needs
 returns : tie.Need-returns
 returns c = c .refuse .ensures ∙ tells-length _ (sym (c .before .before .length-holds .ensures) ∙ not-true _ (c .before .if1 .taken))
 
-sub-last : tie.Need-sub-last
-sub-last c = let b = whole c in search needs
-
 first-wrong-requires : tie.Need-first-wrong-requires
 first-wrong-requires c κs = let b = whole c in search needs
 
-letters-hold-requires : tie.Need-letters-hold-requires
-letters-hold-requires c κs = let b = whole (c .before) in search needs
-
 cast-refuse : tie.Need-cast-refuse
-cast-refuse c = let b = whole (c .before .before .before) in omega arith
+cast-refuse c = let b = whole (c .before .before) in omega arith
 
 refuse-requires-2 : tie.Need-refuse-requires-2
 refuse-requires-2 c κs = search needs
@@ -66,14 +61,17 @@ refuse-requires-2 c κs = search needs
 returns-2 : tie.Need-returns-2
 returns-2 c =
     c .refuse2 .ensures
-    ∙ ap (refused 2) (c .before .before .before .first-wrong .ensures)
-    ∙ tells-check _ (one (c .before .before .before .before)) (omega (arith, c .before .before .before .first-wrong .ensures, c .before .if2 .taken))
+    ∙ ap (λ (n : ℕ). Refused (refusal 2 n)) (c .before .before .first-wrong .ensures)
+    ∙ tells-check _ (one (c .before .before .before)) (omega (arith, c .before .before .first-wrong .ensures, c .before .if2 .taken))
+
+letters-hold-requires : tie.Need-letters-hold-requires
+letters-hold-requires c κs = let b = whole (c .before .before) in search needs
 
 refuse-requires-3 : tie.Need-refuse-requires-3
 refuse-requires-3 c κs = search needs
 
 returns-3 : tie.Need-returns-3
-returns-3 c = c .refuse3 .ensures ∙ tells-letters _ (one (c .before .before .before .before .before)) (two (c .before .before)) (sym (c .before .before .before .letters-hold .ensures) ∙ not-true _ (c .before .if3 .taken))
+returns-3 c = c .refuse3 .ensures ∙ tells-letters _ (one (c .before .before .before .before .before)) (two (c .before .before .before)) (sym (c .before .before .letters-hold .ensures) ∙ not-true _ (c .before .if3 .taken))
 
 header-holds-requires : tie.Need-header-holds-requires
 header-holds-requires c κs = let b = whole (c .before .before .before .before) in search needs
@@ -82,7 +80,7 @@ refuse-requires-4 : tie.Need-refuse-requires-4
 refuse-requires-4 c κs = search needs
 
 returns-4 : tie.Need-returns-4
-returns-4 c = c .refuse4 .ensures ∙ tells-header _ (one (c .before .before .before .before .before .before .before)) (two (c .before .before .before .before)) (three (c .before .before .before)) (sym (c .before .before .header-holds .ensures) ∙ not-true _ (c .before .if4 .taken))
+returns-4 c = c .refuse4 .ensures ∙ tells-header _ (one (c .before .before .before .before .before .before .before)) (two (c .before .before .before .before .before)) (three (c .before .before .before)) (sym (c .before .before .header-holds .ensures) ∙ not-true _ (c .before .if4 .taken))
 
 shared-slice-read-k : tie.Need-shared-slice-read-k
 shared-slice-read-k c = let b = whole (c .before .before .before .before .before .before .before) in search needs
@@ -108,6 +106,9 @@ refuse-requires-5 c κs = search needs
 returns-5 : tie.Need-returns-5
 returns-5 c = c .refuse5 .ensures ∙ tells-size _ (past (c .before .before .before .before .before .before)) (λ e. c .before .if5 .taken (e ∙ ap blocksFor (sym (c .before .before .to-usize .ensures .0))))
 
+sub-places : tie.Need-sub-places
+sub-places c = search needs
+
 mul-places : tie.Need-mul-places
 mul-places c = search needs
 
@@ -123,7 +124,7 @@ refuse-requires-6 c κs = search needs
 returns-6 : tie.Need-returns-6
 returns-6 c =
     c .refuse6 .ensures
-    ∙ ap (refused 6) (c .before .before .first-broken .ensures)
+    ∙ ap (λ (n : ℕ). Refused (refusal 6 n)) (c .before .before .first-broken .ensures)
     ∙ tells-place _ (past (c .before .before .before .before .before .before .before .before)) (five (c .before .before .before)) (omega (arith, c .before .before .first-broken .ensures, c .before .if6 .taken))
 
 returns-7 : tie.Need-returns-7
@@ -136,12 +137,11 @@ check-file-spec =
     length-holds-requires
     refuse-requires
     returns
-    sub-last
     first-wrong-requires
-    letters-hold-requires
     cast-refuse
     refuse-requires-2
     returns-2
+    letters-hold-requires
     refuse-requires-3
     returns-3
     header-holds-requires
@@ -155,6 +155,7 @@ check-file-spec =
     add-if5-2
     refuse-requires-5
     returns-5
+    sub-places
     mul-places
     first-broken-requires
     cast-refuse-2

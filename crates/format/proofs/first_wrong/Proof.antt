@@ -5,7 +5,7 @@ use mathlib.Core.Bool.{not}
 use borrow.Author.Needs.{needs}
 use borrow.Author.Tests.{not-true, not-false}
 use denote.Ref.{now}
-use Rattle.format.specs.Bytes.{firstFailing}
+use Rattle.format.specs.Search.{firstFailing}
 use Rattle.format.specs.Block.{isSealed}
 use Rattle.format.specs.File.{blockOf}
 use Rattle.format.proofs.Search.{from, search-start, search-more, search-stop, search-end}

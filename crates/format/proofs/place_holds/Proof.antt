@@ -3,8 +3,8 @@ use mathlib.Core.Path.{ap, _∙_}
 use native.Mathlib.Omega.{arith}
 use borrow.Author.Tests.{lt-ltb, le-ltb}
 use denote.Ref.{now}
-use Rattle.format.specs.Bytes.{allZero}
-use Rattle.format.specs.Box.{wellFormed}
+use Rattle.boxes.specs.Bytes.{allZero}
+use Rattle.boxes.specs.Box.{wellFormed}
 use Rattle.format.specs.File.{placeStart, placeRule}
 use Rattle.format.proofs.Places.{part-to}
 use borrow.Author.Needs.{needs}

@@ -1,0 +1,3 @@
+-- The rules of a box: words for bytes, and the box.
+pub mod Bytes
+pub mod Box

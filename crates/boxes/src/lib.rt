@@ -1,0 +1,80 @@
+// The rules of a box, ten bytes, in a chart of k inputs and n boxes.
+ghost use mathlib.Core.Path.{_≡_};
+ghost use lib.ListN.{length};
+ghost use Rattle.boxes.specs.Bytes.{allZero};
+ghost use Rattle.boxes.specs.Box.{readable, operandRule, assignmentRule, decisionRule, haltRule, wellFormed};
+
+// Every byte is 0.
+pub fn all_zero(bytes: &[u8]) -> bool
+    ensures { λ r. ⌜ r ≡ allZero (now (bytes .entry)) ⌝ }
+{
+    let mut i: usize = 0;
+    while i < bytes.len() {
+        if bytes[i] != 0 {
+            return false;
+        }
+        i += 1;
+    }
+    true
+}
+
+fn can_read(k: u8, v: u8) -> bool
+    ensures { λ r. ⌜ r ≡ readable k v ⌝ }
+{
+    (v < k) | ((16 <= v) & (v <= 31))
+}
+
+fn operand_holds(k: u8, reads: bool, v: u8) -> bool
+    ensures { λ r. ⌜ r ≡ operandRule k reads v ⌝ }
+{
+    if reads {
+        return can_read(k, v);
+    }
+    v == 0
+}
+
+fn assignment_holds(k: u8, n: u8, b: &[u8]) -> bool
+    requires { ⌜ length (now b) ≡ 10 ⌝ }
+    ensures { λ r. ⌜ r ≡ assignmentRule k n (now (b .entry)) ⌝ }
+{
+    let op = b[2];
+    (b[0] == 1)
+        & (16 <= b[1])
+        & (b[1] <= 31)
+        & (op <= 11)
+        & operand_holds(k, 1 <= op, b[3])
+        & operand_holds(k, (2 <= op) & (op <= 8), b[4])
+        & (b[5] < n)
+        & ((op == 0) | all_zero(&b[6..10]))
+}
+
+fn decision_holds(k: u8, n: u8, b: &[u8]) -> bool
+    requires { ⌜ length (now b) ≡ 10 ⌝ }
+    ensures { λ r. ⌜ r ≡ decisionRule k n (now (b .entry)) ⌝ }
+{
+    (b[0] == 2)
+        & (b[1] == 0)
+        & (b[2] <= 2)
+        & can_read(k, b[3])
+        & can_read(k, b[4])
+        & (b[5] < n)
+        & (b[6] < n)
+        & all_zero(&b[7..10])
+}
+
+fn halt_holds(b: &[u8]) -> bool
+    requires { ⌜ length (now b) ≡ 10 ⌝ }
+    ensures { λ r. ⌜ r ≡ haltRule (now (b .entry)) ⌝ }
+{
+    (b[0] == 3) & all_zero(&b[1..10])
+}
+
+// Ten bytes that break no rule of a box.
+pub fn well_formed(k: u8, n: u8, b: &[u8]) -> bool
+    ensures { λ r. ⌜ r ≡ wellFormed k n (now (b .entry)) ⌝ }
+{
+    if b.len() != 10 {
+        return false;
+    }
+    assignment_holds(k, n, b) | decision_holds(k, n, b) | halt_holds(b)
+}
