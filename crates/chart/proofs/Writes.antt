@@ -1,27 +1,27 @@
 -- What write back tells and leaves, from the facts that lead there. Assumes nothing.
 use Prim.Native.Nat.{ℕ, _≤_, _<_}
 use mathlib.Core.Path.{_≡_, refl, sym, ap}
-use mathlib.Core.List.{List}
+use mathlib.Core.List.{List, [], _∷_}
 use mathlib.Core.Bool.{true, false}
-use lib.Dec.{leb}
+use lib.Dec.{leb, ltb}
 use borrow.Author.Tests.{lt-ltb, le-ltb, leb-true}
-use Rattle.format.specs.File.{refusal}
+use Rattle.format.specs.File.{inRange, refusal}
 use Rattle.format.specs.declared.Header.{Header}
-use Rattle.boxes.proofs.Bools.{and-right}
-use Rattle.chart.specs.WriteBack.{holdsChart, fileLength, writeBack, bufferAfter}
+use Rattle.boxes.proofs.Bools.{every}
+use Rattle.chart.specs.WriteBack.{fileLength, writeBack, bufferAfter}
 use Rattle.chart.specs.declared.Written.{Written}
 use Rattle.chart.specs.declared.Written.the-variants.{Length, Refused}
 
 module _ (h : Header) (room : ℕ) where
-  pub tells-none : holdsChart h ≡ false → Refused (refusal 21 0) ≡ writeBack h room
+  pub tells-none : inRange h ≡ false → Refused (refusal 21 0) ≡ writeBack h room
   unfolding writeBack
   tells-none e = rw e
 
-  pub tells-short : holdsChart h ≡ true → room < fileLength h → Refused (refusal 12 0) ≡ writeBack h room
+  pub tells-short : inRange h ≡ true → room < fileLength h → Refused (refusal 12 0) ≡ writeBack h room
   unfolding writeBack
   tells-short e l = rw (e, lt-ltb room (fileLength h) l)
 
-  pub tells-file : holdsChart h ≡ true → fileLength h ≤ room → Length (fileLength h) ≡ writeBack h room
+  pub tells-file : inRange h ≡ true → fileLength h ≤ room → Length (fileLength h) ≡ writeBack h room
   unfolding writeBack
   tells-file e l = rw (e, le-ltb room (fileLength h) l)
 
@@ -29,5 +29,7 @@ pub leaves-buffer : (w : Written) (number : ℕ) (h : Header) (table buf : List 
 unfolding bufferAfter
 leaves-buffer w number h table buf e = rw e
 
-pub holds-few : (h : Header) → holdsChart h ≡ true → h .boxes ≤ 204
-holds-few h e = leb-true (h .boxes) 204 (and-right (leb 1 (h .boxes)) (leb (h .boxes) 204) e)
+pub few-boxes : (h : Header) → inRange h ≡ true → h .boxes ≤ 204
+few-boxes h e =
+    let r = every (leb (h .inputs) 16) (leb 1 (h .boxes) ∷ leb (h .boxes) 204 ∷ ltb (h .first) (h .boxes) ∷ []) e in
+    leb-true (h .boxes) 204 (r .1 .1 .0)

@@ -6,16 +6,16 @@ use mathlib.Core.Bool.{true}
 use lib.ListN.{length, drop}
 use Rattle.boxes.specs.Bytes.{at, allZero}
 use Rattle.boxes.specs.Box.{wellFormed}
-use Rattle.format.specs.File.{checkFile}
+use Rattle.format.specs.File.{inRange, checkFile}
 use Rattle.format.specs.declared.Header.{Header}
 use Rattle.format.specs.declared.Checked.the-variants.{Accepted}
 use Rattle.chart.specs.Chart.{tableOf, boxOf, fileOf}
-use Rattle.chart.specs.WriteBack.{holdsChart, fileLength, writeBack, bufferAfter}
+use Rattle.chart.specs.WriteBack.{fileLength, writeBack, bufferAfter}
 use Rattle.chart.specs.declared.Written.the-variants.{Length}
 
 -- "It tells the file's length": the length told is the file's.
 abbrev pub TellsLength : Type 0
-TellsLength = (h : Header) (table : List ℕ) → holdsChart h ≡ true → length table ≡ 2040 → length (fileOf h table) ≡ fileLength h
+TellsLength = (h : Header) (table : List ℕ) → inRange h ≡ true → length table ≡ 2040 → length (fileOf h table) ≡ fileLength h
 
 -- "Writing back a loaded chart reproduces its file": its bytes, and so what write back tells and leaves where there is room.
 abbrev pub ReproducesFile : Type 0

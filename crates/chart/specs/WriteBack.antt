@@ -2,28 +2,24 @@
 -- file are untouched. It tells the file's length."
 use Prim.Native.Nat.{ℕ, _*_}
 use mathlib.Core.List.{List, _++_}
-use mathlib.Core.Bool.{Bool, cond, not, _&&_}
-use lib.Dec.{leb, ltb}
+use mathlib.Core.Bool.{cond, not}
+use lib.Dec.{ltb}
 use lib.ListN.{length, drop}
-use Rattle.format.specs.File.{blocksFor, refusal}
+use Rattle.format.specs.File.{blocksFor, inRange, refusal}
 use Rattle.format.specs.declared.Header.{Header}
 use Rattle.chart.specs.Chart.{fileOf}
 use Rattle.chart.specs.declared.Written.{Written}
 use Rattle.chart.specs.declared.Written.the-variants.{Length, Refused}
 
--- A header with a number of boxes that a file can have: a chart is held.
-abbrev pub holdsChart : Header → Bool
-holdsChart h = leb 1 (h .boxes) && leb (h .boxes) 204
-
 -- The length of a chart's file.
 abbrev pub fileLength : Header → ℕ
 fileLength h = 512 * blocksFor (h .boxes)
 
--- What write back tells of a buffer of so many bytes. "Write back: 21, 12": "21: no chart held"; "12: the buffer for writing back is shorter
--- than the file".
+-- What write back tells of a buffer of so many bytes. "Write back: 21, 12": "21: no chart held", where the header is none that a file can
+-- have; "12: the buffer for writing back is shorter than the file".
 unfoldable pub writeBack : Header → ℕ → Written
 writeBack h room =
-    cond (not (holdsChart h)) (Refused (refusal 21 0))
+    cond (not (inRange h)) (Refused (refusal 21 0))
     (cond (ltb room (fileLength h)) (Refused (refusal 12 0))
     (Length (fileLength h)))
 

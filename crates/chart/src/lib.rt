@@ -9,7 +9,7 @@ ghost use lib.ListN.{length, drop};
 ghost use Rattle.format.specs.Block.{seal};
 ghost use Rattle.format.specs.File.{blocksFor, refusal};
 ghost use Rattle.chart.specs.Chart.{boxBlocks, tableOf, headerBody, bodyOf, fileOf};
-ghost use Rattle.chart.specs.WriteBack.{holdsChart, writeBack, bufferAfter};
+ghost use Rattle.chart.specs.WriteBack.{writeBack, bufferAfter};
 ghost use Rattle.chart.specs.ShowBox.{showBox, IsPart};
 
 // What write back tells.
@@ -108,18 +108,12 @@ fn write_file(header: Header, table: &[u8], blocks: usize, buf: &mut [u8])
     }
 }
 
-fn holds_chart(header: Header) -> bool
-    ensures { λ r. ⌜ r ≡ holdsChart header ⌝ }
-{
-    (1 <= header.boxes) & (header.boxes <= 204)
-}
-
 // The file of a chart at the front of a lent buffer, and its length; a refusal leaves the buffer as it was.
 pub fn write_back(header: Header, table: &[u8; 2040], buf: &mut [u8]) -> Written
     ensures { λ r. ⌜ r ≡ writeBack header (length (now (buf .entry))) ⌝ }
     ensures { λ r. ⌜ now (buf .exit) ≡ bufferAfter r header (now (table .entry)) (now (buf .entry)) ⌝ }
 {
-    if !holds_chart(header) {
+    if !format::in_range(header) {
         return refuse(21);
     }
     let blocks = 1 + (widen::to_usize(header.boxes) + 50) / 51;

@@ -11,11 +11,11 @@ use borrow.Author.Tests.{eqb-true, ltb-true, leb-true, not-false}
 use Rattle.boxes.specs.Bytes.{at, part, allZero}
 use Rattle.format.specs.Search.{firstFailing}
 use Rattle.format.specs.Block.{isSealed}
-use Rattle.format.specs.File.{blockOf, blocksFor, headerOf, lengthRule, lettersRule, headerRule, placeRule, refusal, checkFile}
+use Rattle.format.specs.File.{blockOf, blocksFor, headerOf, inRange, lengthRule, lettersRule, headerRule, placeRule, refusal, checkFile}
 use Rattle.format.specs.declared.Header.{Header}
 use Rattle.format.specs.declared.Checked.{Checked}
 use Rattle.format.specs.declared.Checked.the-variants as checked
-use Rattle.boxes.proofs.Bools.{every}
+use Rattle.boxes.proofs.Bools.{and-left, every}
 use Rattle.format.proofs.Search.{all-hold}
 use Rattle.format.proofs.Places.{Blocks, blocks-of}
 
@@ -34,6 +34,7 @@ pub record Accepted (f : List ℕ) (h : Header) : Type 0 where
   pub fits : h .boxes ≤ 204
   pub few : h .inputs ≤ 16
   pub start : h .first < h .boxes
+  pub ranged : inRange h ≡ true
   pub rest : allZero (part f 8 502) ≡ true
   pub letters : Letters f
   pub checks : (j : ℕ) → j < blocksFor (h .boxes) → isSealed (blockOf f j) ≡ true
@@ -61,6 +62,7 @@ record Sound (f : List ℕ) : Type 0 where
   some : 1 ≤ at f 6
   fits : at f 6 ≤ 204
   start : at f 7 < at f 6
+  ranged : inRange (headerOf f) ≡ true
   rest : allZero (part f 8 502) ≡ true
 
 sound-of : (f : List ℕ) → headerRule f ≡ true → Sound f
@@ -72,6 +74,7 @@ sound-of f e =
       some = leb-true 1 (at f 6) (r .1 .0);
       fits = leb-true (at f 6) 204 (r .1 .1 .0);
       start = ltb-true (at f 7) (at f 6) (r .1 .1 .1 .0);
+      ranged = and-left (inRange (headerOf f)) (allZero (part f 8 502)) e;
       rest = r .1 .1 .1 .1 .0;
     }
 
@@ -100,6 +103,7 @@ accepted f h e =
       fits = s .fits;
       few = s .few;
       start = s .start;
+      ranged = s .ranged;
       rest = s .rest;
       letters = letters-of f (not-false _ (three .0));
       checks = λ j l. all-hold (λ i. isSealed (blockOf f i)) blocks (two .0) j (omega arith);

@@ -40,10 +40,13 @@ lengthRule bytes = eqb bytes 1024 || eqb bytes 1536 || eqb bytes 2048 || eqb byt
 abbrev pub lettersRule : List ℕ → Bool
 lettersRule f = eqb (at f 0) 70 && eqb (at f 1) 76 && eqb (at f 2) 79 && eqb (at f 3) 87 && eqb (at f 4) 1
 
+-- "the number of inputs k, 0 to 16"; "the number of boxes n, 1 to 204"; "the first box run, below n".
+abbrev pub inRange : Header → Bool
+inRange h = leb (h .inputs) 16 && leb 1 (h .boxes) && leb (h .boxes) 204 && ltb (h .first) (h .boxes)
+
 -- "4: k, n, the first box, or bytes 8 to 509 of block 0 break a rule."
 unfoldable pub headerRule : List ℕ → Bool
-headerRule f =
-    leb (at f 5) 16 && leb 1 (at f 6) && leb (at f 6) 204 && ltb (at f 7) (at f 6) && allZero (part f 8 502)
+headerRule f = inRange (headerOf f) && allZero (part f 8 502)
 
 -- "6: a box, or a place after the last box, breaks a rule." "places from n on are all 0".
 unfoldable pub placeRule : List ℕ → ℕ → ℕ → ℕ → Bool

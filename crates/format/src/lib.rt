@@ -8,7 +8,7 @@ ghost use Prim.Native.Nat.{ℕ, _+_, _*_, _<_, _≤_};
 ghost use lib.ListN.{length};
 ghost use Rattle.format.specs.Search.{firstFailing};
 ghost use Rattle.format.specs.Block.{isSealed};
-ghost use Rattle.format.specs.File.{blockOf, placeStart, lengthRule, lettersRule, headerRule, placeRule, refusal, checkFile};
+ghost use Rattle.format.specs.File.{blockOf, placeStart, lengthRule, lettersRule, headerOf, inRange, headerRule, placeRule, refusal, checkFile};
 
 // A refusal, by document 01's number and detail.
 pub struct Refusal {
@@ -48,15 +48,32 @@ fn letters_hold(file: &[u8]) -> bool
     (file[0] == b'F') & (file[1] == b'L') & (file[2] == b'O') & (file[3] == b'W') & (file[4] == 1)
 }
 
+// The numbers of a header are those that a file can have.
+pub fn in_range(header: Header) -> bool
+    ensures { λ r. ⌜ r ≡ inRange header ⌝ }
+{
+    (header.inputs <= 16)
+        & (1 <= header.boxes)
+        & (header.boxes <= 204)
+        & (header.first < header.boxes)
+}
+
+fn header_of(file: &[u8]) -> Header
+    requires { ⌜ 512 ≤ length (now file) ⌝ }
+    ensures { λ r. ⌜ r ≡ headerOf (now (file .entry)) ⌝ }
+{
+    Header {
+        inputs: file[5],
+        boxes: file[6],
+        first: file[7],
+    }
+}
+
 fn header_holds(file: &[u8]) -> bool
     requires { ⌜ 512 ≤ length (now file) ⌝ }
     ensures { λ r. ⌜ r ≡ headerRule (now (file .entry)) ⌝ }
 {
-    (file[5] <= 16)
-        & (1 <= file[6])
-        & (file[6] <= 204)
-        & (file[7] < file[6])
-        & boxes::all_zero(&file[8..510])
+    in_range(header_of(file)) & boxes::all_zero(&file[8..510])
 }
 
 // The first of a file's blocks whose check differs, or their number where none does.
@@ -124,20 +141,15 @@ pub fn check_file(file: &[u8]) -> Checked
     if !header_holds(file) {
         return refuse(4, 0);
     }
-    let k = file[5];
-    let n = file[6];
-    let first = file[7];
+    let header = header_of(file);
+    let n = header.boxes;
     if blocks != 1 + (widen::to_usize(n) + 50) / 51 {
         return refuse(5, 0);
     }
     let places = 51 * (blocks - 1);
-    let broken = first_broken(file, k, n, places);
+    let broken = first_broken(file, header.inputs, n, places);
     if broken < places {
         return refuse(6, broken as u32);
     }
-    Checked::Accepted(Header {
-        inputs: k,
-        boxes: n,
-        first,
-    })
+    Checked::Accepted(header)
 }

@@ -5,20 +5,20 @@ use mathlib.Core.Bool.{true}
 use native.Mathlib.Omega.{arith}
 use denote.Ref.{now}
 use borrow.Author.Tests.{not-true, not-false}
-use Rattle.format.specs.File.{blocksFor}
-use Rattle.chart.specs.WriteBack.{holdsChart, bufferAfter}
+use Rattle.format.specs.File.{blocksFor, inRange}
+use Rattle.chart.specs.WriteBack.{bufferAfter}
 use Rattle.chart.specs.declared.Written.the-variants.{Length}
-use Rattle.chart.proofs.Writes.{tells-none, tells-short, tells-file, leaves-buffer, holds-few}
+use Rattle.chart.proofs.Writes.{tells-none, tells-short, tells-file, leaves-buffer, few-boxes}
 use borrow.Author.Needs.{needs}
 use Rattle.chart.proofs.write_back.Statement.{statement}
 use Rattle.chart.proofs.write_back.Tie as tie
 
 -- A chart is held past the first test.
-held : (c : tie.Else1) → holdsChart (c .before .before .before .args .header) ≡ true
-held c = sym (c .before .holds-chart .ensures) ∙ not-false _ (c .if1 .left)
+held : (c : tie.Else1) → inRange (c .before .before .before .args .header) ≡ true
+held c = sym (c .before .in-range .ensures) ∙ not-false _ (c .if1 .left)
 
-holds-chart-requires : tie.Need-holds-chart-requires
-holds-chart-requires c κs = search needs
+in-range-requires : tie.Need-in-range-requires
+in-range-requires c κs = search needs
 
 refuse-requires : tie.Need-refuse-requires
 refuse-requires c κs = search needs
@@ -27,7 +27,7 @@ returns : tie.Need-returns
 returns c =
     let a = c .before .before .before .before .args in
     let told = c .refuse .ensures in (
-      told ∙ tells-none _ _ (sym (c .before .before .holds-chart .ensures) ∙ not-true _ (c .before .if1 .taken)),
+      told ∙ tells-none _ _ (sym (c .before .before .in-range .ensures) ∙ not-true _ (c .before .if1 .taken)),
       leaves-buffer _ 21 (a .header) (now (a .table)) (now (a .buf)) told,
     )
 
@@ -57,7 +57,7 @@ returns-2 c =
 write-file-requires : tie.Need-write-file-requires
 write-file-requires c κs =
     let n = c .before .before .before .to-usize .ensures .0 in
-    let few = holds-few (c .before .before .before .before .before .before .before .args .header) (held (c .before .before .before .before)) in
+    let few = few-boxes (c .before .before .before .before .before .before .before .args .header) (held (c .before .before .before .before)) in
     (search needs, ap blocksFor n, omega (arith, few, n), omega arith)
 
 same-length : tie.Need-same-length
@@ -76,7 +76,7 @@ pub write-back-spec : {M : Type 1} → statement M
 write-back-spec =
     tie.close
     (tie.spec
-    holds-chart-requires
+    in-range-requires
     refuse-requires
     returns
     to-usize-requires

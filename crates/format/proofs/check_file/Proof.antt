@@ -8,10 +8,12 @@ use lib.ListN.{length}
 use denote.Ref.{now}
 use borrow.Author.Tests.{not-true, not-false}
 use Rattle.boxes.specs.Bytes.{at}
-use Rattle.format.specs.File.{lengthRule, lettersRule, blocksFor, refusal}
-use Rattle.format.specs.declared.Checked.the-variants.{Refused}
+use Rattle.format.specs.File.{blocksFor, headerOf, lengthRule, lettersRule, placeRule, refusal}
+use Rattle.format.specs.Search.{firstFailing}
+use Rattle.format.specs.declared.Header.{Header}
+use Rattle.format.specs.declared.Checked.the-variants.{Accepted, Refused}
 use Rattle.format.proofs.Places.{Blocks, blocks-of}
-use Rattle.format.proofs.Checks.{blocks, wrong, Past, tells-length, tells-check, tells-letters, tells-header, tells-size, tells-place, tells-chart}
+use Rattle.format.proofs.Checks.{blocks, wrong, places, broken, Past, tells-length, tells-check, tells-letters, tells-header, tells-size, tells-place, tells-chart}
 use borrow.Author.Needs.{needs}
 use Rattle.format.proofs.check_file.Statement.{statement}
 use Rattle.format.proofs.check_file.Tie as tie
@@ -37,8 +39,17 @@ past c =
       four = sym (c .before .header-holds .ensures) ∙ not-false _ (c .if4 .left);
     }
 
-five : (c : tie.Else5) → let f = now (c .before .before .before .before .before .before .before .before .before .before .before .before .before .before .args .file) in blocks f ≡ blocksFor (at f 6)
-five c = c .if5 .left ∙ ap blocksFor (c .before .to-usize .ensures .0)
+-- The number of boxes that the size is held to.
+boxes-are : (c : tie.After-to-usize) → c .to-usize .result ≡ at (now (c .before .before .before .before .before .before .before .before .before .before .before .args .file)) 6
+boxes-are c = c .to-usize .ensures .0 ∙ ap (λ (h : Header). h .boxes) (c .before .header-of .ensures)
+
+five : (c : tie.Else5) → let f = now (c .before .before .before .before .before .before .before .before .before .before .before .before .args .file) in blocks f ≡ blocksFor (at f 6)
+five c = c .if5 .left ∙ ap blocksFor (boxes-are (c .before))
+
+broken-is : (c : tie.After-first-broken) → c .first-broken .result ≡ broken (now (c .before .before .before .before .before .before .before .before .before .before .before .before .before .args .file))
+broken-is c =
+    let f = now (c .before .before .before .before .before .before .before .before .before .before .before .before .before .args .file) in
+    c .first-broken .ensures ∙ ap (λ (h : Header). firstFailing (placeRule f (h .inputs) (h .boxes)) (places f)) (c .before .before .before .header-of .ensures)
 
 length-holds-requires : tie.Need-length-holds-requires
 length-holds-requires c κs = search needs
@@ -82,14 +93,8 @@ refuse-requires-4 c κs = search needs
 returns-4 : tie.Need-returns-4
 returns-4 c = c .refuse4 .ensures ∙ tells-header _ (one (c .before .before .before .before .before .before .before)) (two (c .before .before .before .before .before)) (three (c .before .before .before)) (sym (c .before .before .header-holds .ensures) ∙ not-true _ (c .before .if4 .taken))
 
-shared-slice-read-k : tie.Need-shared-slice-read-k
-shared-slice-read-k c = let b = whole (c .before .before .before .before .before .before .before) in search needs
-
-shared-slice-read-n : tie.Need-shared-slice-read-n
-shared-slice-read-n c = let b = whole (c .before .before .before .before .before .before .before .before) in search needs
-
-shared-slice-read-first : tie.Need-shared-slice-read-first
-shared-slice-read-first c = let b = whole (c .before .before .before .before .before .before .before .before .before) in search needs
+header-of-requires : tie.Need-header-of-requires
+header-of-requires c κs = let b = whole (c .before .before .before .before .before .before) in search needs
 
 to-usize-requires : tie.Need-to-usize-requires
 to-usize-requires c κs = search needs
@@ -104,7 +109,7 @@ refuse-requires-5 : tie.Need-refuse-requires-5
 refuse-requires-5 c κs = search needs
 
 returns-5 : tie.Need-returns-5
-returns-5 c = c .refuse5 .ensures ∙ tells-size _ (past (c .before .before .before .before .before .before)) (λ e. c .before .if5 .taken (e ∙ ap blocksFor (sym (c .before .before .to-usize .ensures .0))))
+returns-5 c = c .refuse5 .ensures ∙ tells-size _ (past (c .before .before .before .before)) (λ e. c .before .if5 .taken (e ∙ ap blocksFor (sym (boxes-are (c .before .before)))))
 
 sub-places : tie.Need-sub-places
 sub-places c = search needs
@@ -124,11 +129,11 @@ refuse-requires-6 c κs = search needs
 returns-6 : tie.Need-returns-6
 returns-6 c =
     c .refuse6 .ensures
-    ∙ ap (λ (n : ℕ). Refused (refusal 6 n)) (c .before .before .first-broken .ensures)
-    ∙ tells-place _ (past (c .before .before .before .before .before .before .before .before)) (five (c .before .before .before)) (omega (arith, c .before .before .first-broken .ensures, c .before .if6 .taken))
+    ∙ ap (λ (n : ℕ). Refused (refusal 6 n)) (broken-is (c .before .before))
+    ∙ tells-place _ (past (c .before .before .before .before .before .before)) (five (c .before .before .before)) (omega (arith, broken-is (c .before .before), c .before .if6 .taken))
 
 returns-7 : tie.Need-returns-7
-returns-7 c = tells-chart _ (past (c .before .before .before .before .before .before .before)) (five (c .before .before)) (omega (arith, c .before .first-broken .ensures, c .if6 .left))
+returns-7 c = ap Accepted (c .before .before .before .before .header-of .ensures) ∙ tells-chart _ (past (c .before .before .before .before .before)) (five (c .before .before)) (omega (arith, broken-is (c .before), c .if6 .left))
 
 pub check-file-spec : {M : Type 1} → statement M
 check-file-spec =
@@ -147,9 +152,7 @@ check-file-spec =
     header-holds-requires
     refuse-requires-4
     returns-4
-    shared-slice-read-k
-    shared-slice-read-n
-    shared-slice-read-first
+    header-of-requires
     to-usize-requires
     add-if5
     add-if5-2

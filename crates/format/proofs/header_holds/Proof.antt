@@ -1,23 +1,16 @@
 -- `header_holds` is the rule, test by test.
-use Rattle.format.specs.File.{headerRule}
+use mathlib.Core.Path.{ap, _∙_}
+use Rattle.format.specs.declared.Header.{Header}
+use Rattle.format.specs.File.{inRange, headerRule}
 use borrow.Author.Needs.{needs}
 use Rattle.format.proofs.header_holds.Statement.{statement}
 use Rattle.format.proofs.header_holds.Tie as tie
 
-shared-slice-read-result : tie.Need-shared-slice-read-result
-shared-slice-read-result c = search needs
+header-of-requires : tie.Need-header-of-requires
+header-of-requires c κs = search needs
 
-shared-slice-read-result-2 : tie.Need-shared-slice-read-result-2
-shared-slice-read-result-2 c = search needs
-
-shared-slice-read-result-3 : tie.Need-shared-slice-read-result-3
-shared-slice-read-result-3 c = search needs
-
-shared-slice-read-result-4 : tie.Need-shared-slice-read-result-4
-shared-slice-read-result-4 c = search needs
-
-shared-slice-read-result-5 : tie.Need-shared-slice-read-result-5
-shared-slice-read-result-5 c = search needs
+in-range-requires : tie.Need-in-range-requires
+in-range-requires c κs = search needs
 
 sub-all-zero : tie.Need-sub-all-zero
 sub-all-zero c = search needs
@@ -33,17 +26,16 @@ all-zero-requires c κs = search needs
 
 returns : tie.Need-returns
 unfolding headerRule
-returns c = cc
+returns c =
+    let ranged = c .before .before .in-range .ensures ∙ ap (λ (h : Header). inRange h) (c .before .before .before .header-of .ensures) in
+    rw (c .all-zero .ensures, ranged)
 
 pub header-holds-spec : {M : Type 1} → statement M
 header-holds-spec =
     tie.close
     (tie.spec
-    shared-slice-read-result
-    shared-slice-read-result-2
-    shared-slice-read-result-3
-    shared-slice-read-result-4
-    shared-slice-read-result-5
+    header-of-requires
+    in-range-requires
     sub-all-zero
     part-all-zero-start
     part-all-zero-end
