@@ -1,6 +1,6 @@
 -- The round trip. Each block of an accepted file is its first 510 bytes with their check; those bytes are the header's or stand in the box
 -- table; so the blocks that write back joins are the file's, and what holds of the file holds of what is written. Assumes nothing.
-use Prim.Native.Nat.{ℕ, zero, suc, _+_, _*_, _-_, _/_, _%_, _≤_, _<_, min}
+use Prim.Native.Nat.{ℕ, zero, suc, _+_, _*_, _-_, _/_, _%_, _≤_, _<_}
 use mathlib.Core.Path.{_≡_, refl, ap, sym, _∙_}
 use mathlib.Core.List.{List, [], _∷_, _++_}
 use mathlib.Core.Bool.{true}
@@ -12,7 +12,7 @@ use lib.Seq.{take-add, take-all, take-take, drop-cons}
 use borrow.Author.Tests.{eqb-true}
 use Rattle.boxes.specs.Bytes.{at, part}
 use Rattle.format.specs.Block.{checksum, isSealed, seal}
-use Rattle.format.specs.File.{blockOf, blocksFor, headerOf, checkFile}
+use Rattle.format.specs.File.{blockOf, blocksFor, checkFile}
 use Rattle.format.specs.declared.Header.{Header}
 use Rattle.format.specs.declared.Checked.the-variants as checked
 use Rattle.boxes.proofs.Bools.{and-left, and-right}

@@ -1,10 +1,10 @@
 -- The boxes of a loaded table obey the box rules. Place p of the file is box p of the table, since the table's pieces are the file's blocks
 -- of boxes; the file's checks say that place p breaks no rule; and the rules, kind by kind, say what is in range. Assumes nothing.
-use Prim.Native.Nat.{ℕ, _+_, _*_, _-_, _/_, _%_, _≤_, _<_, min}
+use Prim.Native.Nat.{ℕ, _+_, _*_, _-_, _/_, _%_, _≤_, _<_}
 use mathlib.Core.Path.{_≡_, ap, sym, _∙_}
-use mathlib.Core.List.{List, [], _∷_, _++_}
-use mathlib.Core.Bool.{Bool, true, false, cond, _||_, _&&_}
-use mathlib.Core.Logic.{_⊎_, inl, inr, ⊎-elim}
+use mathlib.Core.List.{List, [], _∷_}
+use mathlib.Core.Bool.{Bool, true, false, _||_, _&&_}
+use mathlib.Core.Logic.{⊎-elim}
 use native.Mathlib.Decide.{decLt}
 use native.Mathlib.Omega.{arith}
 use lib.Dec.{eqb, ltb, leb}
@@ -18,7 +18,7 @@ use Rattle.format.specs.declared.Checked.the-variants as checked
 use Rattle.boxes.proofs.Bools.{and-left, and-right, or-cases, every}
 use Rattle.format.proofs.Accepted.{Accepted, accepted}
 use Rattle.chart.specs.Chart.{joined, boxBlocks, boxesOf, tableOf, boxOf}
-use Rattle.chart.specs.Claims.{ObeysRules, HeaderInRange, BoxInRange, assigns, decides, halts, StaysInRange}
+use Rattle.chart.specs.Claims.{ObeysRules, BoxInRange, assigns, decides, halts, StaysInRange}
 use Rattle.chart.proofs.Lists.{length-part, part-part, part-zeros}
 use Rattle.chart.proofs.Joined.{Sized, joined-length, joined-piece}
 use Rattle.chart.proofs.RoundTrip.{box-blocks}

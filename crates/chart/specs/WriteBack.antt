@@ -4,7 +4,7 @@ use Prim.Native.Nat.{ℕ, _*_}
 use mathlib.Core.List.{List, _++_}
 use mathlib.Core.Bool.{cond, not}
 use lib.Dec.{ltb}
-use lib.ListN.{length, drop}
+use lib.ListN.{drop}
 use Rattle.format.specs.File.{blocksFor, inRange, refusal}
 use Rattle.format.specs.declared.Header.{Header}
 use Rattle.chart.specs.Chart.{fileOf}

@@ -116,7 +116,7 @@ pub fn write_back(header: Header, table: &[u8; 2040], buf: &mut [u8]) -> Written
     if !format::in_range(header) {
         return refuse(21);
     }
-    let blocks = 1 + (widen::to_usize(header.boxes) + 50) / 51;
+    let blocks = format::blocks_for(header.boxes);
     let size = 512 * blocks;
     if buf.len() < size {
         return refuse(12);

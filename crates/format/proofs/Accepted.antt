@@ -1,7 +1,7 @@
 -- What it says of a file that its checks pass: one record of facts, which load, show a box and the round trip cite.
 -- Assumes nothing.
-use Prim.Native.Nat.{ℕ, _+_, _*_, _-_, _/_, _≤_, _<_}
-use mathlib.Core.Path.{_≡_, refl, ap, sym, _∙_}
+use Prim.Native.Nat.{ℕ, _*_, _-_, _/_, _≤_, _<_}
+use mathlib.Core.Path.{_≡_, refl}
 use mathlib.Core.List.{List, [], _∷_}
 use mathlib.Core.Bool.{Bool, true, false, cond, not}
 use native.Mathlib.Omega.{arith}
@@ -17,7 +17,7 @@ use Rattle.format.specs.declared.Checked.{Checked}
 use Rattle.format.specs.declared.Checked.the-variants as checked
 use Rattle.boxes.proofs.Bools.{and-left, every}
 use Rattle.format.proofs.Search.{all-hold}
-use Rattle.format.proofs.Places.{Blocks, blocks-of}
+use Rattle.format.proofs.Places.{blocks-of}
 
 -- What check 3 says of the first bytes.
 pub record Letters (f : List ℕ) : Type 0 where

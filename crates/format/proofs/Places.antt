@@ -1,5 +1,5 @@
 -- Laws of the file's parts: the length that check 1 asks, and the places within it. Assumes nothing.
-use Prim.Native.Nat.{ℕ, _+_, _*_, _-_, _/_, _≤_, _<_}
+use Prim.Native.Nat.{ℕ, _+_, _*_, _-_, _/_, _≤_}
 use mathlib.Core.Path.{_≡_, ap}
 use mathlib.Core.List.{List}
 use mathlib.Core.Bool.{true}
@@ -7,10 +7,10 @@ use mathlib.Core.Logic.{⊎-elim}
 use native.Mathlib.Nat.{add-sub-cancel-left}
 use native.Mathlib.Omega.{arith}
 use lib.Dec.{eqb}
-use lib.ListN.{length, take, drop}
+use lib.ListN.{take, drop}
 use borrow.Author.Tests.{eqb-true}
 use Rattle.boxes.specs.Bytes.{part}
-use Rattle.format.specs.File.{lengthRule, placeStart}
+use Rattle.format.specs.File.{lengthRule}
 use Rattle.boxes.proofs.Bools.{or-cases}
 
 -- A part whose end is written as its start and its size.
@@ -32,7 +32,3 @@ blocks-of n e =
   where
     is : (m : ℕ) → Blocks m → eqb n m ≡ true → Blocks n
     is m b d = rw (eqb-true n m d) b
-
--- Each place of a file of so many blocks lies within it.
-pub place-within : (f : List ℕ) (blocks p : ℕ) → 2 ≤ blocks → 512 * blocks ≤ length f → p < 51 * (blocks - 1) → placeStart p + 10 ≤ length f
-place-within f blocks p h l q = omega arith

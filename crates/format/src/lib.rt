@@ -8,7 +8,7 @@ ghost use Prim.Native.Nat.{ℕ, _+_, _*_, _<_, _≤_};
 ghost use lib.ListN.{length};
 ghost use Rattle.format.specs.Search.{firstFailing};
 ghost use Rattle.format.specs.Block.{isSealed};
-ghost use Rattle.format.specs.File.{blockOf, placeStart, lengthRule, lettersRule, headerOf, inRange, headerRule, placeRule, refusal, checkFile};
+ghost use Rattle.format.specs.File.{blockOf, placeStart, blocksFor, lengthRule, lettersRule, headerOf, inRange, headerRule, placeRule, refusal, checkFile};
 
 // A refusal, by document 01's number and detail.
 pub struct Refusal {
@@ -35,10 +35,17 @@ fn refuse(number: u32, detail: u32) -> Checked
     Checked::Refused(Refusal { number, detail })
 }
 
-fn length_holds(n: usize) -> bool
-    ensures { λ r. ⌜ r ≡ lengthRule n ⌝ }
+fn length_holds(len: usize) -> bool
+    ensures { λ r. ⌜ r ≡ lengthRule len ⌝ }
 {
-    (n == 1024) | (n == 1536) | (n == 2048) | (n == 2560)
+    (len == 1024) | (len == 1536) | (len == 2048) | (len == 2560)
+}
+
+// The blocks of a file of so many boxes. The contract tells callers the range.
+pub fn blocks_for(boxes: u8) -> usize
+    ensures { λ r. ⌜ (r ≡ blocksFor boxes) × (r ≤ 7) ⌝ }
+{
+    1 + (widen::to_usize(boxes) + 50) / 51
 }
 
 fn letters_hold(file: &[u8]) -> bool
@@ -143,7 +150,7 @@ pub fn check_file(file: &[u8]) -> Checked
     }
     let header = header_of(file);
     let n = header.boxes;
-    if blocks != 1 + (widen::to_usize(n) + 50) / 51 {
+    if blocks != blocks_for(n) {
         return refuse(5, 0);
     }
     let places = 51 * (blocks - 1);

@@ -5,7 +5,7 @@ use mathlib.Core.Bool.{true}
 use native.Mathlib.Omega.{arith}
 use denote.Ref.{now}
 use borrow.Author.Tests.{not-true, not-false}
-use Rattle.format.specs.File.{blocksFor, inRange}
+use Rattle.format.specs.File.{inRange}
 use Rattle.chart.specs.WriteBack.{bufferAfter}
 use Rattle.chart.specs.declared.Written.the-variants.{Length}
 use Rattle.chart.proofs.Writes.{tells-none, tells-short, tells-file, leaves-buffer, few-boxes}
@@ -31,14 +31,8 @@ returns c =
       leaves-buffer _ 21 (a .header) (now (a .table)) (now (a .buf)) told,
     )
 
-to-usize-requires : tie.Need-to-usize-requires
-to-usize-requires c κs = search needs
-
-add-blocks : tie.Need-add-blocks
-add-blocks c = search needs
-
-add-blocks-2 : tie.Need-add-blocks-2
-add-blocks-2 c = search needs
+blocks-for-requires : tie.Need-blocks-for-requires
+blocks-for-requires c κs = search needs
 
 mul-size : tie.Need-mul-size
 mul-size c = search needs
@@ -50,15 +44,15 @@ returns-2 : tie.Need-returns-2
 returns-2 c =
     let a = c .before .before .before .before .before .before .args in
     let told = c .refuse2 .ensures in (
-      told ∙ tells-short _ _ (held (c .before .before .before)) (omega (arith, c .before .before .to-usize .ensures .0, c .before .if2 .taken)),
+      told ∙ tells-short _ _ (held (c .before .before .before)) (omega (arith, c .before .before .blocks-for .ensures .0, c .before .if2 .taken)),
       leaves-buffer _ 12 (a .header) (now (a .table)) (now (a .buf)) told,
     )
 
 write-file-requires : tie.Need-write-file-requires
 write-file-requires c κs =
-    let n = c .before .before .before .to-usize .ensures .0 in
+    let n = c .before .before .before .blocks-for .ensures .0 in
     let few = few-boxes (c .before .before .before .before .before .before .before .args .header) (held (c .before .before .before .before)) in
-    (search needs, ap blocksFor n, omega (arith, few, n), omega arith)
+    (search needs, n, omega (arith, few, n), omega arith)
 
 same-length : tie.Need-same-length
 same-length c = search needs
@@ -67,8 +61,8 @@ returns-3 : tie.Need-returns-3
 unfolding bufferAfter
 returns-3 c =
     let a = c .before .before .before .before .before .before .before .before .before .before .args in
-    let n = c .before .before .before .before .before .before .to-usize .ensures .0 in (
-      ap (λ (x : ℕ). Length (512 * blocksFor x)) n ∙ tells-file _ _ (held (c .before .before .before .before .before .before .before)) (omega (arith, n, c .before .before .before .before .before .if2 .left)),
+    let n = c .before .before .before .before .before .before .blocks-for .ensures .0 in (
+      ap (λ (x : ℕ). Length (512 * x)) n ∙ tells-file _ _ (held (c .before .before .before .before .before .before .before)) (omega (arith, n, c .before .before .before .before .before .if2 .left)),
       c .before .before .write-file .ensures,
     )
 
@@ -79,9 +73,7 @@ write-back-spec =
     in-range-requires
     refuse-requires
     returns
-    to-usize-requires
-    add-blocks
-    add-blocks-2
+    blocks-for-requires
     mul-size
     refuse-requires-2
     returns-2

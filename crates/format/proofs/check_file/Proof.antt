@@ -8,7 +8,7 @@ use lib.ListN.{length}
 use denote.Ref.{now}
 use borrow.Author.Tests.{not-true, not-false}
 use Rattle.boxes.specs.Bytes.{at}
-use Rattle.format.specs.File.{blocksFor, headerOf, lengthRule, lettersRule, placeRule, refusal}
+use Rattle.format.specs.File.{blocksFor, lengthRule, lettersRule, placeRule, refusal}
 use Rattle.format.specs.Search.{firstFailing}
 use Rattle.format.specs.declared.Header.{Header}
 use Rattle.format.specs.declared.Checked.the-variants.{Accepted, Refused}
@@ -39,12 +39,12 @@ past c =
       four = sym (c .before .header-holds .ensures) ∙ not-false _ (c .if4 .left);
     }
 
--- The number of boxes that the size is held to.
-boxes-are : (c : tie.After-to-usize) → c .to-usize .result ≡ at (now (c .before .before .before .before .before .before .before .before .before .before .before .args .file)) 6
-boxes-are c = c .to-usize .ensures .0 ∙ ap (λ (h : Header). h .boxes) (c .before .header-of .ensures)
+-- The blocks that the size is held to.
+size-is : (c : tie.After-blocks-for) → c .blocks-for .result ≡ blocksFor (at (now (c .before .before .before .before .before .before .before .before .before .before .before .args .file)) 6)
+size-is c = c .blocks-for .ensures .0 ∙ ap (λ (h : Header). blocksFor (h .boxes)) (c .before .header-of .ensures)
 
 five : (c : tie.Else5) → let f = now (c .before .before .before .before .before .before .before .before .before .before .before .before .args .file) in blocks f ≡ blocksFor (at f 6)
-five c = c .if5 .left ∙ ap blocksFor (boxes-are (c .before))
+five c = c .if5 .left ∙ size-is (c .before)
 
 broken-is : (c : tie.After-first-broken) → c .first-broken .result ≡ broken (now (c .before .before .before .before .before .before .before .before .before .before .before .before .before .args .file))
 broken-is c =
@@ -96,20 +96,14 @@ returns-4 c = c .refuse4 .ensures ∙ tells-header _ (one (c .before .before .be
 header-of-requires : tie.Need-header-of-requires
 header-of-requires c κs = let b = whole (c .before .before .before .before .before .before) in search needs
 
-to-usize-requires : tie.Need-to-usize-requires
-to-usize-requires c κs = search needs
-
-add-if5 : tie.Need-add-if5
-add-if5 c = search needs
-
-add-if5-2 : tie.Need-add-if5-2
-add-if5-2 c = search needs
+blocks-for-requires : tie.Need-blocks-for-requires
+blocks-for-requires c κs = search needs
 
 refuse-requires-5 : tie.Need-refuse-requires-5
 refuse-requires-5 c κs = search needs
 
 returns-5 : tie.Need-returns-5
-returns-5 c = c .refuse5 .ensures ∙ tells-size _ (past (c .before .before .before .before)) (λ e. c .before .if5 .taken (e ∙ ap blocksFor (sym (boxes-are (c .before .before)))))
+returns-5 c = c .refuse5 .ensures ∙ tells-size _ (past (c .before .before .before .before)) (λ e. c .before .if5 .taken (e ∙ sym (size-is (c .before .before))))
 
 sub-places : tie.Need-sub-places
 sub-places c = search needs
@@ -153,9 +147,7 @@ check-file-spec =
     refuse-requires-4
     returns-4
     header-of-requires
-    to-usize-requires
-    add-if5
-    add-if5-2
+    blocks-for-requires
     refuse-requires-5
     returns-5
     sub-places

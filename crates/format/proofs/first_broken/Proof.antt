@@ -1,10 +1,8 @@
 -- `first_broken` goes up the places: what is left to search gives what the whole search gives.
 use Prim.Native.Nat.{_≤_, _-_}
-use mathlib.Core.Path.{_≡_, ap, sym, _∙_}
-use mathlib.Core.Bool.{not}
+use mathlib.Core.Path.{_≡_, sym, _∙_}
 use borrow.Author.Needs.{needs}
 use borrow.Author.Tests.{not-true, not-false}
-use denote.Ref.{now}
 use Rattle.format.specs.Search.{firstFailing}
 use Rattle.format.specs.File.{placeRule}
 use Rattle.format.proofs.Search.{from, search-start, search-more, search-stop, search-end}

@@ -1,5 +1,5 @@
 -- `is_sealed` compares the two bytes with the check's.
-use Rattle.format.specs.Block.{checksum, isSealed}
+use Rattle.format.specs.Block.{isSealed}
 use borrow.Author.Needs.{needs}
 use Rattle.format.proofs.block.is_sealed.Statement.{statement}
 use Rattle.format.proofs.block.is_sealed.Tie as tie
