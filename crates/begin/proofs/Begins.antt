@@ -1,0 +1,131 @@
+-- What an accepted begin says of its arguments (permitted, under-way), and laws of what a run begins with: the limit, the lengths of the variables
+-- and marks, each of them by its place, and that two begins agree on what has no mark. Assumes nothing.
+use Prim.Native.Nat.{ℕ, zero, suc, _-_, _/_, _^_, _≤_, _<_, min}
+use mathlib.Core.Path.{_≡_, refl, ap, sym, _∙_}
+use mathlib.Core.Logic.{⊎-elim}
+use mathlib.Core.List.{List, [], _∷_, _++_}
+use mathlib.Core.Bool.{Bool, true, false, cond, not}
+use native.Mathlib.Nat.{eq-or-lt-of-le}
+use native.Mathlib.Decide.{decLt}
+use native.Mathlib.Omega.{arith}
+use lib.Dec.{eqb, ltb, eqb·suc-zero}
+use lib.ListN.{length, getD, take, replicate, length-append, length-take, length-replicate, List·getD-append, List·getD-eq-default}
+use lib.Seq.{take-all, getD-at}
+use borrow.Author.Tests.{leb-true, ltb-false, eqb-true, eqb-false, not-false}
+use Rattle.boxes.proofs.Bools.{and-left}
+use Rattle.format.specs.File.{inRange}
+use Rattle.format.specs.declared.Header.{Header}
+use Rattle.begin.specs.Begin.{refuse, beginVerdict, effective, allows, firstVars, withheldMark, withheldMarks, firstMarks}
+use Rattle.begin.specs.declared.Verdict.{Verdict}
+use Rattle.begin.specs.declared.Verdict.the-variants.{Done}
+
+-- A chart held has at most 16 inputs.
+pub few-inputs : (h : Header) → inRange h ≡ true → h .inputs ≤ 16
+few-inputs h e = leb-true (h .inputs) 16 (and-left _ _ (and-left _ _ (and-left _ _ e)))
+
+-- An accepted begin: each check has passed.
+pub record Permitted (h : Header) (state mode count allowed limit : ℕ) : Type 0 where
+  pub held : inRange h ≡ true
+  pub resting : eqb state 1 ≡ false
+  pub known : mode ≤ 2
+  pub lent : count ≡ h .inputs
+  pub below : allowed / 2 ^ h .inputs ≡ 0
+  pub fits : limit ≤ 65535
+
+passed : (b : Bool) {x : Verdict} (number : ℕ) → cond b (refuse number) x ≡ Done → (b ≡ false) × (x ≡ Done)
+passed true number e = let z : _≡_ {A = ℕ} 0 1 = cc in absurd (omega arith)
+passed false number e = (refl, e)
+
+pub permitted : (h : Header) (state mode count allowed limit : ℕ) → beginVerdict h state mode count allowed limit ≡ Done
+    → Permitted h state mode count allowed limit
+unfolding beginVerdict
+permitted h state mode count allowed limit e =
+    let one = passed (not (inRange h)) 21 e in
+    let two = passed (eqb state 1) 22 (one .1) in
+    let three = passed (ltb 2 mode) 7 (two .1) in
+    let four = passed (not (eqb count (h .inputs))) 9 (three .1) in
+    let five = passed (not (eqb (allowed / 2 ^ h .inputs) 0)) 8 (four .1) in
+    let six = passed (ltb 65535 limit) 10 (five .1) in
+    record {
+      held = not-false _ (one .0);
+      resting = two .0;
+      known = ltb-false 2 mode (three .0);
+      lent = eqb-true _ _ (not-false _ (four .0));
+      below = eqb-true _ _ (not-false _ (five .0));
+      fits = ltb-false 65535 limit (six .0);
+    }
+
+-- A run that is under way keeps another from beginning.
+pub under-way : (h : Header) (mode count allowed limit : ℕ) → beginVerdict h 1 mode count allowed limit ≡ Done → ⊥
+under-way h mode count allowed limit e = eqb-false 1 1 (permitted h 1 mode count allowed limit e .resting) refl
+
+pub effective-positive : (l : ℕ) → 0 < effective l
+unfolding effective
+effective-positive zero = omega arith
+effective-positive (suc l) = rw (eqb·suc-zero l) (omega arith)
+
+pub effective-fits : (l : ℕ) → l ≤ 65535 → effective l ≤ 65535
+unfolding effective
+effective-fits zero f = omega arith
+effective-fits (suc l) f = rw (eqb·suc-zero l) f
+
+pub length-vars : (i : List ℕ) → length i ≤ 32 → length (firstVars i) ≡ 32
+unfolding firstVars
+length-vars i f = simp (length-append, length-take, length-replicate) (omega arith)
+
+pub length-withheld : (a k : ℕ) → length (withheldMarks a k) ≡ k
+unfolding withheldMarks
+length-withheld a zero = refl
+length-withheld a (suc k) = simp (length-append, length-withheld a k) (omega arith)
+
+pub length-marks : (a k : ℕ) → k ≤ 32 → length (firstMarks a k) ≡ 32
+unfolding firstMarks
+length-marks a k f = simp (length-append, length-withheld, length-replicate) (omega arith)
+
+-- Zeros after a list are what a load past its end gives.
+getD-zeros : (l : List ℕ) (n j : ℕ) → getD (l ++ replicate n 0) j 0 ≡ getD l j 0
+getD-zeros [] zero j = refl
+getD-zeros [] (suc n) zero = refl
+getD-zeros [] (suc n) (suc j) = getD-zeros [] n j
+getD-zeros (x ∷ l) n zero = refl
+getD-zeros (x ∷ l) n (suc j) = getD-zeros l n j
+
+-- Variable j is input j, and 0 past the inputs.
+pub vars-at : (i : List ℕ) (j : ℕ) → length i ≤ 32 → getD (firstVars i) j 0 ≡ getD i j 0
+unfolding firstVars
+vars-at i j f = getD-zeros (take 32 i) (32 - length i) j ∙ ap (λ (l : List ℕ). getD l j 0) (take-all 32 i f)
+
+withheld-at : (a k j : ℕ) → j < k → getD (withheldMarks a k) j 0 ≡ withheldMark a j
+unfolding withheldMarks
+withheld-at a zero j l = absurd (omega arith)
+withheld-at a (suc k) j l =
+    let done = withheldMarks a k in
+    let last = withheldMark a k in
+    let within : j ≤ k = omega arith in
+    ⊎-elim
+    (λ e. getD-at done last [] 0 j (length-withheld a k ∙ sym e) ∙ ap (withheldMark a) (sym e))
+    (λ q. List·getD-append done (last ∷ []) 0 j (omega (arith, length-withheld a k)) ∙ withheld-at a k j q)
+    (eq-or-lt-of-le within)
+
+-- Mark j is that of input j.
+pub marks-at : (a k j : ℕ) → k ≤ 32 → j < k → getD (firstMarks a k) j 0 ≡ withheldMark a j
+unfolding firstMarks
+marks-at a k j f l = getD-zeros (withheldMarks a (min 32 k)) (32 - k) j ∙ withheld-at a (min 32 k) j (omega arith)
+
+no-mark : (b : Bool) → _≡_ {A = ℕ} (cond b 0 1) 0 → b ≡ true
+no-mark true e = refl
+no-mark false e = absurd (omega arith)
+
+allowed-at : (a j : ℕ) → withheldMark a j ≡ 0 → allows a j ≡ true
+unfolding withheldMark
+allowed-at a j e = no-mark (allows a j) e
+
+-- Two begins whose inputs differ at most where they are withheld give each variable without a mark one value.
+pub first-agree : (a k : ℕ) (i i′ : List ℕ) → k ≤ 32 → length i ≡ k → length i′ ≡ k
+    → ((j : ℕ) → j < k → allows a j ≡ true → getD i j 0 ≡ getD i′ j 0)
+    → (j : ℕ) → getD (firstMarks a k) j 0 ≡ 0 → getD (firstVars i) j 0 ≡ getD (firstVars i′) j 0
+first-agree a k i i′ f e e′ same j m = vars-at i j (omega arith) ∙ on (decLt j k) ∙ sym (vars-at i′ j (omega arith))
+  where
+    on : Dec (j < k) → getD i j 0 ≡ getD i′ j 0
+    on (yes l) = same j l (allowed-at a j (sym (marks-at a k j f l) ∙ m))
+    on (no l) = List·getD-eq-default i 0 (omega arith) ∙ sym (List·getD-eq-default i′ 0 (omega arith))

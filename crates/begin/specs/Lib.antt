@@ -1,0 +1,2 @@
+-- Begin, in document 01's words.
+pub mod Begin

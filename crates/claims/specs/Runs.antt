@@ -1,0 +1,78 @@
+-- Claims about runs and refusals.
+use Prim.Native.Nat.{ℕ, _+_, _-_, _≤_}
+use mathlib.Core.Path.{_≡_}
+use mathlib.Core.List.{List, List·Memᴰ}
+use mathlib.Core.Bool.{true, false}
+use Rattle.begin.specs.Begin.{effective}
+use Rattle.runner.specs.declared.Runner.{Runner}
+use Rattle.runner.specs.State.{isRunning, isEnded, endingIn, endedWith, dropped}
+use Rattle.runner.specs.Calls.{Call, begin, advance, Reply, done, chart, running, ended, ending, wrote, refused, Told, lent, call}
+use Rattle.claims.specs.Lists.{Reached, Accepted, tells, AllSuch, asked, Ends}
+
+-- Demand 1: "A refusal changes neither the runner nor one byte of a lent buffer."
+abbrev pub RefusalChangesNothing : Type 0
+RefusalChangesNothing =
+    (c : Call) (r : Runner) (number detail : ℕ)
+    → call c r .told .reply ≡ refused number detail
+    → (call c r .told .buffer ≡ lent c) × (call c r .next ≡ r)
+
+-- "Advancing by m and then by p does what advancing by m + p does where the run hasn't ended after m": the runner, and what the second call
+-- tells. Of the definition this holds without a bound on m + p.
+abbrev pub AdvancesJoin : Type 0
+AdvancesJoin =
+    (r : Runner) (m p : ℕ)
+    → isRunning (call (advance m) r .next) ≡ true
+    → call (advance p) (call (advance m) r .next) ≡ call (advance (m + p)) r
+
+-- "Each box run counts one, the box that ends the run included": an advance by m from the begin that leaves the run under way tells m steps;
+-- one that ends it tells s steps where an advance by s ends it so and one by s - 1 does not.
+abbrev pub CountsBoxes : Type 0
+CountsBoxes =
+    (r : Runner) (mode : ℕ) (inputs : List ℕ) (allowed limit : ℕ)
+    → Accepted (begin mode inputs allowed limit) r
+    → (m s : ℕ)
+    → (call (advance m) (call (begin mode inputs allowed limit) r .next) .told .reply ≡ running s → s ≡ m)
+    × (call (advance m) (call (begin mode inputs allowed limit) r .next) .told .reply ≡ ended s
+    → (1 ≤ s)
+    × (s ≤ m)
+    × (call (advance (s - 1)) (call (begin mode inputs allowed limit) r .next) .told .reply ≡ running (s - 1))
+    × (call (advance s) (call (begin mode inputs allowed limit) r .next) ≡ call (advance m) (call (begin mode inputs allowed limit) r .next)))
+
+-- "Advances that add up to the limit always end a run", in every mode.
+abbrev pub LimitEnds : Type 0
+LimitEnds =
+    (r : Runner) (mode : ℕ) (inputs : List ℕ) (allowed limit : ℕ)
+    → Accepted (begin mode inputs allowed limit) r
+    → (cs : List Call)
+    → AllSuch cs (call (begin mode inputs allowed limit) r .next)
+    → effective limit ≤ asked cs
+    → Ends cs (call (begin mode inputs allowed limit) r .next)
+
+-- The steps that a reply tells.
+abbrev pub stepsTold : Reply → ℕ
+stepsTold done = 0
+stepsTold (chart inputs boxes) = 0
+stepsTold (running steps) = steps
+stepsTold (ended steps) = steps
+stepsTold (ending e steps) = steps
+stepsTold (wrote bytes) = 0
+stepsTold (refused number detail) = 0
+
+-- The steps told never pass the limit.
+abbrev pub WithinLimit : Type 0
+WithinLimit =
+    (r : Runner) (mode : ℕ) (inputs : List ℕ) (allowed limit : ℕ)
+    → Accepted (begin mode inputs allowed limit) r
+    → (cs : List Call)
+    → AllSuch cs (call (begin mode inputs allowed limit) r .next)
+    → (t : Told)
+    → List·Memᴰ t (tells cs (call (begin mode inputs allowed limit) r .next))
+    → stepsTold (t .reply) ≤ effective limit
+
+-- "When a run ends or is dropped, the variables, their marks and the counter mark become 0": a runner with no run keeps the chart and nothing
+-- else, and one with an ended run keeps the chart and the ending.
+abbrev pub Cleared : Type 0
+Cleared =
+    (r : Runner)
+    → Reached r
+    → (isRunning r ≡ false → isEnded r ≡ false → r ≡ dropped r) × (isEnded r ≡ true → r ≡ endedWith (endingIn r) (r .count) r)

@@ -1,0 +1,126 @@
+-- What the box at hand does, by its kind and what the code computed of it, and how an advance ends or goes on after it. Assumes nothing.
+use Prim.Native.Nat.{ℕ, _+_, _-_, _%_, _<_, _≤_}
+use mathlib.Core.Path.{_≡_, refl, ap, sym, _∙_, subst}
+use mathlib.Core.List.{List, [], map}
+use mathlib.Core.Bool.{Bool, true, false, cond}
+use lib.Bits.{bitOr}
+use lib.ListN.{getD, set}
+use borrow.Author.Tests.{le-leb, lt-leb}
+use Rattle.format.specs.declared.Header.{Header}
+use Rattle.rules.specs.Decode.{boxAt, readBy}
+use Rattle.rules.specs.Operation.{valueOf, compares}
+use Rattle.rules.specs.Marks.{modeOf, union, targetMark, decisionNotices, counterMark, haltNotices}
+use Rattle.rules.specs.declared.decode.FlowBox.{FlowBox}
+use Rattle.rules.specs.declared.decode.FlowBox.the-variants.{Assign, Decide, Halt}
+use Rattle.rules.proofs.ReadLaws.{read-map}
+use Rattle.runner.specs.declared.Runner.{Runner}
+use Rattle.runner.specs.declared.AdvanceTold.{AdvanceTold}
+use Rattle.runner.specs.declared.AdvanceTold.the-variants as advance
+use Rattle.runner.specs.State.{headerIn, isRunning, Ending, valued, notice, spent, stateOf, valueIn, resting, endedWith}
+use Rattle.runner.specs.Step.{entry, act, moved, goesOn, settle, boxRun, run}
+use Rattle.runner.specs.Calls.{call}
+use Rattle.runner.specs.Calls as calls
+use Rattle.runner.specs.Replies.{advanceReply, outcome}
+use Rattle.runner.proofs.Runs.{still, step-is, run-one, run-none}
+use Rattle.runner.proofs.Outcomes.{advance-runs, advance-ends}
+
+-- The box at hand, of a runner in a mode.
+module _ (r : Runner) (mode : ℕ) (b : FlowBox) (em : r .mode ≡ mode) (eb : b ≡ boxAt (r .table) (r .at)) where
+  box-is : (x : FlowBox) → b ≡ x → boxRun r ≡ settle (act (modeOf mode) x (r .vars) (r .marks) (r .counter)) r
+  box-is x d =
+      ap (λ (k : ℕ). settle (act (modeOf k) (boxAt (r .table) (r .at)) (r .vars) (r .marks) (r .counter)) r) em
+      ∙ ap (λ (y : FlowBox). settle (act (modeOf mode) y (r .vars) (r .marks) (r .counter)) r) (sym eb ∙ d)
+
+  pub assign-box : (t op i j next k v read m : ℕ) → b ≡ Assign t op i j next k
+      → v ≡ valueOf op k (readBy op (entry (r .vars) i) (entry (r .vars) j))
+      → read ≡ union (readBy op (entry (r .marks) i) (entry (r .marks) j))
+      → m ≡ targetMark (modeOf mode) (entry (r .marks) t) read
+      → boxRun r ≡ goesOn r (set (r .vars) (t % 32) v) (set (r .marks) (t % 32) m) (r .counter) next
+  unfolding act settle
+  assign-box t op i j next k v read m d ev er em =
+      let value : valueOf op k (map (entry (r .vars)) (readBy op i j)) ≡ v = ap (valueOf op k) (read-map (entry (r .vars)) op i j) ∙ sym ev in
+      let mark : union (map (entry (r .marks)) (readBy op i j)) ≡ read = ap union (read-map (entry (r .marks)) op i j) ∙ sym er in
+      box-is _ d ∙ rw (value, mark, em)
+
+  module _ (c i j next other : ℕ) (f : Bool) (d : b ≡ Decide c i j next other)
+      (ef : f ≡ decisionNotices (modeOf mode) (bitOr (entry (r .marks) i) (entry (r .marks) j))) where
+    pub stop-box : f ≡ true → boxRun r ≡ endedWith notice (r .steps + 1) r
+    unfolding act settle
+    stop-box e = let n = sym ef ∙ e in box-is _ d ∙ rw n
+
+    pub go-box : (counter to : ℕ) (holds : Bool) → f ≡ false
+        → counter ≡ counterMark (modeOf mode) (r .counter) (bitOr (entry (r .marks) i) (entry (r .marks) j))
+        → holds ≡ compares c (entry (r .vars) i) (entry (r .vars) j)
+        → to ≡ cond holds next other
+        → boxRun r ≡ goesOn r (r .vars) (r .marks) counter to
+    unfolding act settle
+    go-box counter to holds e ec eh et = let n = sym ef ∙ e in box-is _ d ∙ rw (n, et, eh, ec)
+
+  module _ (f : Bool) (d : b ≡ Halt) (ef : f ≡ haltNotices (modeOf mode) (r .counter) (getD (r .marks) 31 0)) where
+    pub halt-notice-box : f ≡ true → boxRun r ≡ endedWith notice (r .steps + 1) r
+    unfolding act settle
+    halt-notice-box e = let n = sym ef ∙ e in box-is _ d ∙ rw n
+
+    pub halt-value-box : f ≡ false → boxRun r ≡ endedWith (valued (getD (r .vars) 31 0)) (r .steps + 1) r
+    unfolding act settle
+    halt-value-box e = let n = sym ef ∙ e in box-is _ d ∙ rw n
+
+-- A runner at another count of steps.
+abbrev pub atSteps : Runner → ℕ → Runner
+atSteps q steps =
+    record { table = q .table; vars = q .vars; marks = q .marks; counter = q .counter; inputs = q .inputs; boxes = q .boxes; first = q .first; mode = q .mode; at = q .at; limit = q .limit; steps = steps; state = q .state; count = q .count; value = q .value }
+
+-- A box that does not end the run has left q, which is still to be counted.
+pub record Left (r q : Runner) : Type 0 where
+  pub goes : boxRun r ≡ goesOn r (q .vars) (q .marks) (q .counter) (q .at)
+  pub header : headerIn q ≡ headerIn r
+  pub table : q .table ≡ r .table
+  pub counted : moved r (q .vars) (q .marks) (q .counter) (q .at) ≡ atSteps q (r .steps + 1)
+
+-- The runner with what a box changes, not yet counted.
+abbrev pub placed : Runner → (vars marks : List ℕ) → (counter at : ℕ) → Runner
+placed r vars marks counter at =
+    record { table = r .table; vars = vars; marks = marks; counter = counter; inputs = r .inputs; boxes = r .boxes; first = r .first; mode = r .mode; at = at; limit = r .limit; steps = r .steps; state = r .state; count = r .count; value = r .value }
+
+pub left : (r q : Runner) (vars marks : List ℕ) (counter at : ℕ) → q ≡ placed r vars marks counter at → boxRun r ≡ goesOn r vars marks counter at → Left r q
+left r q vars marks counter at e g = subst (Left r) (sym e) (record { goes = g; header = refl; table = refl; counted = refl })
+
+-- Its spent ending, and its count.
+module _ (r q : Runner) (l : Left r q) where
+  pub spent-left : r .limit ≤ r .steps + 1 → boxRun r ≡ endedWith spent (r .steps + 1) r
+  unfolding goesOn
+  spent-left h = l .goes ∙ rw (le-leb _ _ h)
+
+  pub counted-left : r .steps + 1 < r .limit → boxRun r ≡ atSteps q (r .steps + 1)
+  unfolding goesOn
+  counted-left h = l .goes ∙ rw (lt-leb _ _ h) (l .counted)
+
+-- An advance of m boxes from r₀ that stands at r with n to go.
+module _ (m n : ℕ) (r₀ r : Runner) (s₀ : r₀ .state ≡ 1) (t : run m r₀ ≡ run n r) (s : r .state ≡ 1) where
+  -- the turn of the loop
+  pub turned : (q : Runner) → 0 < n → boxRun r ≡ q → run m r₀ ≡ run (n - 1) q
+  turned q h d =
+      let on : isRunning r ≡ true = rw s in
+      t ∙ run-one n r h ∙ ap (run (n - 1)) (step-is r on ∙ d)
+
+  over : (e : Ending) (count : ℕ) (x : Runner) → isRunning (endedWith e count x) ≡ false
+  unfolding endedWith
+  over (valued v) count x = refl
+  over notice count x = refl
+  over spent count x = refl
+
+  -- the box at hand ends the run
+  pub finished : (e : Ending) (count : ℕ) (q next : Runner) (told : AdvanceTold) → 0 < n → boxRun r ≡ endedWith e count r → headerIn q ≡ headerIn r → q .table ≡ r .table
+      → told ≡ advance.Ended count → next ≡ resting (headerIn q) (q .table) (stateOf e) count (valueIn e)
+      → outcome (advanceReply told) [] next ≡ call (calls.advance m) r₀
+  unfolding endedWith
+  finished e count q next told h d eh et em en =
+      let end : run m r₀ ≡ endedWith e count r = turned (endedWith e count r) h d ∙ still (n - 1) (endedWith e count r) (over e count r) in
+      let same : next ≡ endedWith e count r = en ∙ ap (λ (x : Header). resting x (q .table) (stateOf e) count (valueIn e)) eh ∙ ap (λ (x : List ℕ). resting (headerIn r) x (stateOf e) count (valueIn e)) et in
+      ap (λ (x : AdvanceTold). outcome (advanceReply x) [] next) em
+      ∙ ap (outcome (advanceReply (advance.Ended count)) []) same
+      ∙ advance-ends m r₀ (endedWith e count r) s₀ end (over e count r)
+
+  -- all boxes asked for were run
+  pub advanced : n ≤ 0 → outcome (advanceReply (advance.Running (r .steps))) [] r ≡ call (calls.advance m) r₀
+  advanced h = advance-runs m r₀ r s₀ (t ∙ run-none n r h) s

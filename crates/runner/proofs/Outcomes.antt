@@ -1,0 +1,145 @@
+-- The outcome of each call, case by case, over plain variables: what the proof of a method cites where it returns. Assumes nothing.
+use Prim.Native.Nat.{ℕ, _≤_, _<_}
+use mathlib.Core.Path.{_≡_, ap, sym, _∙_}
+use mathlib.Core.List.{List, [], _++_}
+use mathlib.Core.Bool.{Bool, true, false, cond, not}
+use native.Mathlib.Omega.{arith}
+use lib.Dec.{ltb}
+use lib.ListN.{length, drop}
+use borrow.Author.Tests.{le-leb, lt-leb, eq-eqb, ne-eqb}
+use Rattle.format.specs.File.{inRange, checkFile, refusal}
+use Rattle.format.specs.declared.Header.{Header}
+use Rattle.format.specs.declared.Refusal.{Refusal}
+use Rattle.format.specs.declared.Checked.the-variants as checked
+use Rattle.format.proofs.Accepted.{accepted}
+use Rattle.chart.specs.Chart.{tableOf, fileOf}
+use Rattle.chart.specs.WriteBack.{fileLength, bufferAfter}
+use Rattle.chart.specs.WriteBack as writing
+use Rattle.chart.specs.declared.Written.{Written}
+use Rattle.chart.specs.declared.Written.the-variants as written
+use Rattle.begin.specs.Begin.{refuse, beginVerdict, effective, firstVars, firstMarks}
+use Rattle.begin.specs.declared.Verdict.{Verdict}
+use Rattle.begin.specs.declared.Verdict.the-variants.{Done, Refused}
+use Rattle.runner.specs.declared.Runner.{Runner}
+use Rattle.runner.specs.declared.LoadTold.the-variants as load
+use Rattle.runner.specs.declared.AdvanceTold.the-variants as advance
+use Rattle.runner.specs.declared.AnswerTold.the-variants as answer
+use Rattle.runner.specs.State.{headerIn, isRunning, endingIn, resting, dropped}
+use Rattle.runner.specs.Step.{run}
+use Rattle.runner.specs.Calls.{Call, fileVerdict, roomVerdict, check, says, leaves, after, carried, call}
+use Rattle.runner.specs.Calls as calls
+use Rattle.runner.specs.Replies.{loadReply, verdictReply, advanceReply, answerReply, writtenReply, outcome}
+
+by-verdict : (c : Call) (r : Runner) (v : Verdict) → check c r ≡ v → carried v c r ≡ call c r
+unfolding call
+by-verdict c r v e = sym (ap (λ (x : Verdict). carried x c r) e)
+
+-- Load.
+module _ (file : List ℕ) (r : Runner) where
+  pub load-busy : (x : Refusal) → x ≡ refusal 22 0 → r .state ≡ 1 → outcome (loadReply (load.Refused x)) [] r ≡ call (calls.load file) r
+  unfolding check loadReply carried
+  load-busy x d e = ap (λ (y : Refusal). outcome (calls.turnedAway y) [] r) d ∙ by-verdict (calls.load file) r (refuse 22) (rw e)
+
+  pub load-accepts : (h : Header) (table : List ℕ) → (r .state ≡ 1 → ⊥) → checkFile file ≡ checked.Accepted h → table ≡ tableOf file
+      → outcome (loadReply (load.Chart (h .inputs) (h .boxes))) [] (resting h table 0 0 0) ≡ call (calls.load file) r
+  unfolding check fileVerdict loadReply carried says leaves after
+  load-accepts h table n e t =
+      ap (λ (x : List ℕ). outcome (calls.chart (h .inputs) (h .boxes)) [] (resting h x 0 0 0)) t
+      ∙ ap (λ (x : Header). outcome (calls.chart (x .inputs) (x .boxes)) [] (resting x (tableOf file) 0 0 0)) (accepted file h e .header)
+      ∙ by-verdict (calls.load file) r Done (rw (ne-eqb _ _ n, e))
+
+  pub load-refuses : (x : Refusal) → (r .state ≡ 1 → ⊥) → checkFile file ≡ checked.Refused x → outcome (loadReply (load.Refused x)) [] r ≡ call (calls.load file) r
+  unfolding check fileVerdict loadReply carried
+  load-refuses x n e = by-verdict (calls.load file) r (Refused x) (rw (ne-eqb _ _ n, e))
+
+-- Begin.
+module _ (mode : ℕ) (inputs : List ℕ) (allowed limit : ℕ) (r : Runner) where
+  -- A run at its start, with these variables, marks and limit.
+  abbrev startedWith : (vars marks : List ℕ) → ℕ → Runner
+  startedWith vars marks l =
+      record { table = r .table; vars = vars; marks = marks; counter = 0; inputs = r .inputs; boxes = r .boxes; first = r .first; mode = mode; at = r .first; limit = l; steps = 0; state = 1; count = 0; value = 0 }
+
+  pub begin-starts : (vars marks : List ℕ) (l : ℕ) → beginVerdict (headerIn r) (r .state) mode (length inputs) allowed limit ≡ Done
+      → vars ≡ firstVars inputs → marks ≡ firstMarks allowed (r .inputs) → l ≡ effective limit
+      → outcome (verdictReply Done) [] (startedWith vars marks l) ≡ call (calls.begin mode inputs allowed limit) r
+  unfolding check verdictReply carried says leaves after
+  begin-starts vars marks l e ev em el =
+      ap (λ (x : List ℕ). outcome calls.done [] (startedWith x marks l)) ev
+      ∙ ap (λ (x : List ℕ). outcome calls.done [] (startedWith (firstVars inputs) x l)) em
+      ∙ ap (λ (x : ℕ). outcome calls.done [] (startedWith (firstVars inputs) (firstMarks allowed (r .inputs)) x)) el
+      ∙ by-verdict (calls.begin mode inputs allowed limit) r Done e
+
+  pub begin-refuses : (v : Verdict) (x : Refusal) → v ≡ beginVerdict (headerIn r) (r .state) mode (length inputs) allowed limit → v ≡ Refused x
+      → outcome (verdictReply v) [] r ≡ call (calls.begin mode inputs allowed limit) r
+  unfolding check verdictReply carried
+  begin-refuses v x e d =
+      ap (λ (y : Verdict). outcome (verdictReply y) [] r) d ∙ by-verdict (calls.begin mode inputs allowed limit) r (Refused x) (sym e ∙ d)
+
+-- Advance: where no run is under way, and what a run under way comes to.
+module _ (m : ℕ) (r : Runner) where
+  pub advance-refuses : (x : Refusal) → x ≡ refusal 23 0 → (r .state ≡ 1 → ⊥) → outcome (advanceReply (advance.Refused x)) [] r ≡ call (calls.advance m) r
+  unfolding check advanceReply carried
+  advance-refuses x d n = ap (λ (y : Refusal). outcome (calls.turnedAway y) [] r) d ∙ by-verdict (calls.advance m) r (refuse 23) (rw (ne-eqb _ _ n))
+
+  advance-does : r .state ≡ 1 → outcome (says (calls.advance m) r) [] (run m r) ≡ call (calls.advance m) r
+  unfolding check carried leaves after
+  advance-does e = by-verdict (calls.advance m) r Done (rw e)
+
+  pub advance-runs : (q : Runner) → r .state ≡ 1 → run m r ≡ q → q .state ≡ 1 → outcome (advanceReply (advance.Running (q .steps))) [] q ≡ call (calls.advance m) r
+  unfolding says advanceReply
+  advance-runs q e d s = sym (rw (d, s)) ∙ advance-does e
+
+  pub advance-ends : (q : Runner) → r .state ≡ 1 → run m r ≡ q → isRunning q ≡ false → outcome (advanceReply (advance.Ended (q .count))) [] q ≡ call (calls.advance m) r
+  unfolding says advanceReply
+  advance-ends q e d n = sym (rw (d, n)) ∙ advance-does e
+
+-- A length that write back tells is the file's.
+length-told : (n : ℕ) (h : Header) (room : ℕ) → written.Length n ≡ writing.writeBack h room → n ≡ fileLength h
+unfolding writing.writeBack
+length-told n h room e = on (not (inRange h)) (ltb room (fileLength h)) e
+  where
+    on : (b c : Bool) → written.Length n ≡ cond b (written.Refused (refusal 21 0)) (cond c (written.Refused (refusal 12 0)) (written.Length (fileLength h))) → n ≡ fileLength h
+    on true c q = let z : _≡_ {A = ℕ} 0 1 = cc in absurd (omega arith)
+    on false true q = let z : _≡_ {A = ℕ} 0 1 = cc in absurd (omega arith)
+    on false false q = cc
+
+-- Abandon, answer and write back.
+module _ (r : Runner) where
+  pub abandon-refuses : (v : Verdict) → (r .state ≡ 1 → ⊥) → v ≡ refuse 23 → outcome (verdictReply v) [] r ≡ call calls.abandon r
+  unfolding check verdictReply carried
+  abandon-refuses v n e = ap (λ (x : Verdict). outcome (verdictReply x) [] r) e ∙ by-verdict calls.abandon r (refuse 23) (rw (ne-eqb _ _ n))
+
+  pub abandon-drops : (q : Runner) → r .state ≡ 1 → q ≡ resting (headerIn r) (r .table) 0 0 0 → outcome (verdictReply Done) [] q ≡ call calls.abandon r
+  unfolding check verdictReply carried says leaves after dropped
+  abandon-drops q e d = ap (outcome calls.done []) d ∙ by-verdict calls.abandon r Done (rw e)
+
+  pub answer-refuses : (x : Refusal) → x ≡ refusal 24 0 → r .state < 2 → outcome (answerReply (answer.Refused x)) [] r ≡ call calls.answer r
+  unfolding check answerReply carried
+  answer-refuses x d l = ap (λ (y : Refusal). outcome (calls.turnedAway y) [] r) d ∙ by-verdict calls.answer r (refuse 24) (rw (lt-leb _ _ l))
+
+  answer-tells : 2 ≤ r .state → outcome (calls.ending (endingIn r) (r .count)) [] r ≡ call calls.answer r
+  unfolding check carried says leaves after
+  answer-tells l = by-verdict calls.answer r Done (rw (le-leb _ _ l))
+
+  pub answer-value : 2 ≤ r .state → r .state ≡ 2 → outcome (answerReply (answer.Value (r .value) (r .count))) [] r ≡ call calls.answer r
+  unfolding answerReply
+  answer-value l e = sym (rw (eq-eqb _ _ e)) ∙ answer-tells l
+
+  pub answer-notice : 2 ≤ r .state → r .state ≡ 3 → outcome (answerReply (answer.Notice (r .count))) [] r ≡ call calls.answer r
+  unfolding answerReply
+  answer-notice l e = sym (rw e) ∙ answer-tells l
+
+  pub answer-spent : 2 ≤ r .state → (r .state ≡ 2 → ⊥) → (r .state ≡ 3 → ⊥) → outcome (answerReply (answer.Spent (r .count))) [] r ≡ call calls.answer r
+  unfolding answerReply
+  answer-spent l n m = sym (rw (ne-eqb _ _ n, ne-eqb _ _ m)) ∙ answer-tells l
+
+  -- What the chart's own write back tells and leaves.
+  pub write-back-does : (w : Written) (buffer end : List ℕ) → w ≡ writing.writeBack (headerIn r) (length buffer) → end ≡ bufferAfter w (headerIn r) (r .table) buffer
+      → outcome (writtenReply w) end r ≡ call (calls.writeBack buffer) r
+  unfolding check roomVerdict writtenReply carried says leaves after bufferAfter
+  write-back-does (written.Length n) buffer end e d =
+      let same : n ≡ fileLength (headerIn r) = length-told n (headerIn r) (length buffer) e in
+      ap (λ (b : List ℕ). outcome (calls.wrote n) b r) d
+      ∙ ap (λ (k : ℕ). outcome (calls.wrote k) (fileOf (headerIn r) (r .table) ++ drop k buffer) r) same
+      ∙ by-verdict (calls.writeBack buffer) r Done (ap roomVerdict (sym e))
+  write-back-does (written.Refused x) buffer end e d = ap (λ (b : List ℕ). outcome (calls.turnedAway x) b r) d ∙ by-verdict (calls.writeBack buffer) r (Refused x) (ap roomVerdict (sym e))

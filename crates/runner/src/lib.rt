@@ -1,0 +1,326 @@
+// The runner and its six calls.
+use begin::Verdict;
+use chart::Written;
+use format::Checked;
+use format::Header;
+use format::Refusal;
+use rules::decode::FlowBox;
+ghost use mathlib.Core.Path.{_≡_};
+ghost use mathlib.Core.Bool.{cond};
+ghost use mathlib.Core.List.{[]};
+ghost use Rattle.format.specs.File.{refusal};
+ghost use Rattle.runner.specs.State.{newRunner, resting, headerIn};
+ghost use Rattle.runner.specs.Calls.{load, begin, advance, answer, abandon, writeBack, call};
+ghost use Rattle.runner.specs.Replies.{loadReply, verdictReply, advanceReply, answerReply, writtenReply, outcome};
+
+// The chart that is held: the box table, and the header's `inputs`, `boxes` and `first`. Of a run under way: the variables, their marks, the
+// counter mark, the mode, the box at hand, the limit and the steps so far. `state` is 0 without a run, 1 with one under way, and 2, 3 or 4
+// where one has ended with a value, a notice or spent, after `count` steps and with `value`.
+pub struct Runner {
+    table: [u8; 2040],
+    vars: [u32; 32],
+    marks: [u8; 32],
+    counter: u8,
+    inputs: u8,
+    boxes: u8,
+    first: u8,
+    mode: u8,
+    at: u8,
+    limit: u16,
+    steps: u16,
+    state: u8,
+    count: u32,
+    value: u32,
+}
+
+// What load tells.
+pub enum LoadTold {
+    Chart { inputs: u8, boxes: u8 },
+    Refused(Refusal),
+}
+
+pub struct Loaded {
+    pub runner: Runner,
+    pub told: LoadTold,
+}
+
+// A begin or an abandon.
+pub struct Changed {
+    pub runner: Runner,
+    pub told: Verdict,
+}
+
+// What advance tells: running or ended, and the steps so far.
+pub enum AdvanceTold {
+    Running(u32),
+    Ended(u32),
+    Refused(Refusal),
+}
+
+pub struct Advanced {
+    pub runner: Runner,
+    pub told: AdvanceTold,
+}
+
+// What answer tells: the ending.
+pub enum AnswerTold {
+    Value { value: u32, steps: u32 },
+    Notice(u32),
+    Spent(u32),
+    Refused(Refusal),
+}
+
+// A refusal whose detail is 0.
+fn refusal(number: u32) -> Refusal
+    ensures { λ r. ⌜ r ≡ refusal number 0 ⌝ }
+{
+    Refusal { number, detail: 0 }
+}
+
+impl Runner {
+    pub fn new() -> Runner
+        ensures { λ r. ⌜ r ≡ newRunner ⌝ }
+    {
+        Runner {
+            table: [0; 2040],
+            vars: [0; 32],
+            marks: [0; 32],
+            counter: 0,
+            inputs: 0,
+            boxes: 0,
+            first: 0,
+            mode: 0,
+            at: 0,
+            limit: 0,
+            steps: 0,
+            state: 0,
+            count: 0,
+            value: 0,
+        }
+    }
+
+    // The chart stays, and no run is under way.
+    fn rest(mut self, state: u8, count: u32, value: u32) -> Runner
+        ensures { λ r. ⌜ r ≡ resting (headerIn self) (self .table) state count value ⌝ }
+    {
+        self.vars = [0; 32];
+        self.marks = [0; 32];
+        self.counter = 0;
+        self.mode = 0;
+        self.at = 0;
+        self.limit = 0;
+        self.steps = 0;
+        self.state = state;
+        self.count = count;
+        self.value = value;
+        self
+    }
+
+    // The chart of a file replaces the one held.
+    pub fn load(self, file: &[u8]) -> Loaded
+        ensures { λ r. ⌜ outcome (loadReply (r .told)) [] (r .runner) ≡ call (load (now (file .entry))) self ⌝ }
+    {
+        if self.state == 1 {
+            let told = LoadTold::Refused(refusal(22));
+            return Loaded { told, runner: self };
+        }
+        let checked = format::check_file(file);
+        match checked {
+            Checked::Accepted(header) => {
+                let inputs = header.inputs;
+                let boxes = header.boxes;
+                Loaded {
+                    told: LoadTold::Chart { inputs, boxes },
+                    runner: Runner {
+                        table: chart::table_of(file),
+                        vars: [0; 32],
+                        marks: [0; 32],
+                        counter: 0,
+                        inputs,
+                        boxes,
+                        first: header.first,
+                        mode: 0,
+                        at: 0,
+                        limit: 0,
+                        steps: 0,
+                        state: 0,
+                        count: 0,
+                        value: 0,
+                    },
+                }
+            }
+            Checked::Refused(refusal) => Loaded {
+                told: LoadTold::Refused(refusal),
+                runner: self,
+            },
+        }
+    }
+
+    // A run on the held chart, which forgets an earlier ending.
+    pub fn begin(mut self, mode: u32, inputs: &[u32], allowed: u32, limit: u32) -> Changed
+        ensures { λ r. ⌜ outcome (verdictReply (r .told)) [] (r .runner) ≡ call (begin mode (now (inputs .entry)) allowed limit) self ⌝ }
+    {
+        let header = Header {
+            inputs: self.inputs,
+            boxes: self.boxes,
+            first: self.first,
+        };
+        let told = begin::check(header, self.state, mode, inputs.len(), allowed, limit);
+        match told {
+            Verdict::Done => {
+                let vars = begin::first_vars(inputs);
+                let marks = begin::first_marks(allowed, self.inputs);
+                self.vars = vars;
+                self.marks = marks;
+                self.counter = 0;
+                self.mode = mode as u8;
+                self.at = self.first;
+                self.limit = begin::effective(limit) as u16;
+                self.steps = 0;
+                self.state = 1;
+                self.count = 0;
+                self.value = 0;
+                Changed {
+                    told: Verdict::Done,
+                    runner: self,
+                }
+            }
+            Verdict::Refused(_) => Changed { told, runner: self },
+        }
+    }
+
+    // The run has ended: the end is told, and the chart stays.
+    fn finish(self, state: u8, count: u32, value: u32) -> Advanced
+        ensures { λ r. ⌜ (r .told ≡ AdvanceTold.Ended count) × (r .runner ≡ resting (headerIn self) (self .table) state count value) ⌝ }
+    {
+        let runner = self.rest(state, count, value);
+        Advanced {
+            told: AdvanceTold::Ended(count),
+            runner,
+        }
+    }
+
+    // Runs m boxes, or fewer if the run ends.
+    pub fn advance(mut self, m: u32) -> Advanced
+        ensures { λ r. ⌜ outcome (advanceReply (r .told)) [] (r .runner) ≡ call (advance m) self ⌝ }
+    {
+        if self.state != 1 {
+            let told = AdvanceTold::Refused(refusal(23));
+            return Advanced { told, runner: self };
+        }
+        let limit = self.limit as u32;
+        let mode = self.mode;
+        let mut todo = m;
+        while 0 < todo {
+            todo = todo - 1;
+            let count = (self.steps as u32) + 1;
+            let at = self.at;
+            let b = rules::decode::box_at(&self.table, at);
+            match b {
+                FlowBox::Assign {
+                    target,
+                    op,
+                    left,
+                    right,
+                    next,
+                    constant,
+                } => {
+                    let t = (target % 32) as usize;
+                    let i = (left % 32) as usize;
+                    let j = (right % 32) as usize;
+                    let value = rules::ops::result(op, self.vars[i], self.vars[j], constant);
+                    let read = rules::marks::read_mark(op, self.marks[i], self.marks[j]);
+                    let mark = rules::marks::target_mark(mode, self.marks[t], read);
+                    self.vars[t] = value;
+                    self.marks[t] = mark;
+                    self.at = next;
+                }
+                FlowBox::Decide {
+                    comparison,
+                    left,
+                    right,
+                    next,
+                    other,
+                } => {
+                    let i = (left % 32) as usize;
+                    let j = (right % 32) as usize;
+                    let read = self.marks[i] | self.marks[j];
+                    if rules::marks::decision_notices(mode, read) {
+                        return self.finish(3, count, 0);
+                    }
+                    self.counter = rules::marks::counter_mark(mode, self.counter, read);
+                    let holds = rules::ops::compare(comparison, self.vars[i], self.vars[j]);
+                    self.at = way(holds, next, other);
+                }
+                FlowBox::Halt => {
+                    if rules::marks::halt_notices(mode, self.counter, self.marks[31]) {
+                        return self.finish(3, count, 0);
+                    }
+                    let value = self.vars[31];
+                    return self.finish(2, count, value);
+                }
+            }
+            if limit <= count {
+                return self.finish(4, count, 0);
+            }
+            self.steps = count as u16;
+        }
+        Advanced {
+            told: AdvanceTold::Running(self.steps as u32),
+            runner: self,
+        }
+    }
+
+    // Drops the run under way.
+    pub fn abandon(self) -> Changed
+        ensures { λ r. ⌜ outcome (verdictReply (r .told)) [] (r .runner) ≡ call abandon self ⌝ }
+    {
+        if self.state != 1 {
+            return Changed {
+                told: begin::refuse(23),
+                runner: self,
+            };
+        }
+        Changed {
+            told: Verdict::Done,
+            runner: self.rest(0, 0, 0),
+        }
+    }
+
+    // The ending. The runner that follows is the one lent: nothing is handed back.
+    pub fn answer(self) -> AnswerTold
+        ensures { λ r. ⌜ outcome (answerReply r) [] self ≡ call answer self ⌝ }
+    {
+        let state = self.state;
+        let steps = self.count;
+        if state < 2 {
+            return AnswerTold::Refused(refusal(24));
+        }
+        match state {
+            2 => AnswerTold::Value {
+                value: self.value,
+                steps,
+            },
+            3 => AnswerTold::Notice(steps),
+            _ => AnswerTold::Spent(steps),
+        }
+    }
+
+    // The file of the held chart at the front of a lent buffer. The runner that follows is the one lent.
+    pub fn write_back(self, buf: &mut [u8]) -> Written
+        ensures { λ r. ⌜ outcome (writtenReply r) (now (buf .exit)) self ≡ call (writeBack (now (buf .entry))) self ⌝ }
+    {
+        let header = Header {
+            inputs: self.inputs,
+            boxes: self.boxes,
+            first: self.first,
+        };
+        chart::write_back(header, &self.table, buf)
+    }
+}
+
+fn way(holds: bool, next: u8, other: u8) -> u8
+    ensures { λ r. ⌜ r ≡ cond holds next other ⌝ }
+{
+    if holds { next } else { other }
+}
