@@ -4,29 +4,24 @@ use Prim.Native.Nat.{ℕ, zero, suc, _-_, _/_, _^_, _≤_, _<_, min}
 use mathlib.Core.Path.{_≡_, refl, ap, sym, _∙_}
 use mathlib.Core.Logic.{⊎-elim}
 use mathlib.Core.List.{List, [], _∷_, _++_}
-use mathlib.Core.Bool.{Bool, true, false, cond, not}
+use mathlib.Core.Bool.{Bool, true, false, cond, not, true≢false}
 use native.Mathlib.Nat.{eq-or-lt-of-le}
 use native.Mathlib.Decide.{decLt}
 use native.Mathlib.Omega.{arith}
 use lib.Dec.{eqb, ltb, eqb·suc-zero}
 use lib.ListN.{length, getD, take, replicate, length-append, length-take, length-replicate, List·getD-append, List·getD-eq-default}
 use lib.Seq.{take-all, getD-at}
-use borrow.Author.Tests.{leb-true, ltb-false, eqb-true, eqb-false, not-false}
-use Rattle.boxes.proofs.Bools.{and-left}
+use borrow.Author.Tests.{ltb-false, eqb-true, not-false}
 use Rattle.format.specs.File.{inRange}
 use Rattle.format.specs.declared.Header.{Header}
 use Rattle.begin.specs.Begin.{refuse, beginVerdict, effective, allows, firstVars, withheldMark, withheldMarks, firstMarks}
 use Rattle.begin.specs.declared.Verdict.{Verdict}
 use Rattle.begin.specs.declared.Verdict.the-variants.{Done}
 
--- A chart held has at most 16 inputs.
-pub few-inputs : (h : Header) → inRange h ≡ true → h .inputs ≤ 16
-few-inputs h e = leb-true (h .inputs) 16 (and-left _ _ (and-left _ _ (and-left _ _ e)))
-
 -- An accepted begin: each check has passed.
-pub record Permitted (h : Header) (state mode count allowed limit : ℕ) : Type 0 where
+pub record Permitted (h : Header) (running : Bool) (mode count allowed limit : ℕ) : Type 0 where
   pub held : inRange h ≡ true
-  pub resting : eqb state 1 ≡ false
+  pub resting : running ≡ false
   pub known : mode ≤ 2
   pub lent : count ≡ h .inputs
   pub below : allowed / 2 ^ h .inputs ≡ 0
@@ -36,12 +31,12 @@ passed : (b : Bool) {x : Verdict} (number : ℕ) → cond b (refuse number) x �
 passed true number e = let z : _≡_ {A = ℕ} 0 1 = cc in absurd (omega arith)
 passed false number e = (refl, e)
 
-pub permitted : (h : Header) (state mode count allowed limit : ℕ) → beginVerdict h state mode count allowed limit ≡ Done
-    → Permitted h state mode count allowed limit
+pub permitted : (h : Header) (running : Bool) (mode count allowed limit : ℕ) → beginVerdict h running mode count allowed limit ≡ Done
+    → Permitted h running mode count allowed limit
 unfolding beginVerdict
-permitted h state mode count allowed limit e =
+permitted h running mode count allowed limit e =
     let one = passed (not (inRange h)) 21 e in
-    let two = passed (eqb state 1) 22 (one .1) in
+    let two = passed running 22 (one .1) in
     let three = passed (ltb 2 mode) 7 (two .1) in
     let four = passed (not (eqb count (h .inputs))) 9 (three .1) in
     let five = passed (not (eqb (allowed / 2 ^ h .inputs) 0)) 8 (four .1) in
@@ -56,8 +51,8 @@ permitted h state mode count allowed limit e =
     }
 
 -- A run that is under way keeps another from beginning.
-pub under-way : (h : Header) (mode count allowed limit : ℕ) → beginVerdict h 1 mode count allowed limit ≡ Done → ⊥
-under-way h mode count allowed limit e = eqb-false 1 1 (permitted h 1 mode count allowed limit e .resting) refl
+pub under-way : (h : Header) (mode count allowed limit : ℕ) → beginVerdict h true mode count allowed limit ≡ Done → ⊥
+under-way h mode count allowed limit e = true≢false (permitted h true mode count allowed limit e .resting)
 
 pub effective-positive : (l : ℕ) → 0 < effective l
 unfolding effective

@@ -13,12 +13,12 @@ use Rattle.begin.specs.declared.Verdict.the-variants.{Done, Refused}
 abbrev pub refuse : ℕ → Verdict
 refuse number = Refused (refusal number 0)
 
--- "Begin: 21, 22, 7, 9, 8, 10." "21: no chart held"; "22: a run is under way", which is state 1; "7: mode above 2"; "9: the inputs lent aren't
--- k in number"; "8: the allowed set has a bit at k or above"; "10: limit above 65,535".
-unfoldable pub beginVerdict : Header → (state mode count allowed limit : ℕ) → Verdict
-beginVerdict h state mode count allowed limit =
+-- "Begin: 21, 22, 7, 9, 8, 10." "21: no chart held"; "22: a run is under way"; "7: mode above 2"; "9: the inputs lent aren't k in
+-- number"; "8: the allowed set has a bit at k or above"; "10: limit above 65,535".
+unfoldable pub beginVerdict : Header → Bool → (mode count allowed limit : ℕ) → Verdict
+beginVerdict h running mode count allowed limit =
     cond (not (inRange h)) (refuse 21)
-    (cond (eqb state 1) (refuse 22)
+    (cond running (refuse 22)
     (cond (ltb 2 mode) (refuse 7)
     (cond (not (eqb count (h .inputs))) (refuse 9)
     (cond (not (eqb (allowed / 2 ^ h .inputs) 0)) (refuse 8)

@@ -18,21 +18,21 @@ pub fn refuse(number: u32) -> Verdict
     Verdict::Refused(Refusal { number, detail: 0 })
 }
 
-// The verdict on a begin, by the header and state of the runner and the arguments; `count` is the number of inputs lent.
+// The verdict on a begin, by the header of the chart held, whether a run is under way, and the arguments; `count` is the number of inputs lent.
 pub fn check(
     header: Header,
-    state: u8,
+    running: bool,
     mode: u32,
     count: usize,
     allowed: u32,
     limit: u32,
 ) -> Verdict
-    ensures { λ r. ⌜ r ≡ beginVerdict header state mode count allowed limit ⌝ }
+    ensures { λ r. ⌜ r ≡ beginVerdict header running mode count allowed limit ⌝ }
 {
     if !format::in_range(header) {
         return refuse(21);
     }
-    if state == 1 {
+    if running {
         return refuse(22);
     }
     if 2 < mode {

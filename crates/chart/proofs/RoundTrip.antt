@@ -19,6 +19,7 @@ use Rattle.boxes.proofs.Bools.{and-left, and-right}
 use Rattle.format.proofs.Sums.{check-front}
 use Rattle.boxes.proofs.Zeros.{zeros-are}
 use Rattle.format.proofs.Accepted.{Accepted, accepted}
+use Rattle.format.proofs.Ranges.{in-range}
 use Rattle.chart.specs.Chart.{joined, boxBlocks, boxesOf, tableOf, headerBody, bodyOf, fileOf}
 use Rattle.chart.specs.WriteBack.{writeBack, bufferAfter}
 use Rattle.chart.specs.declared.Written.the-variants.{Length}
@@ -26,7 +27,7 @@ use Rattle.chart.specs.Claims.{TellsLength, ReproducesFile, ReproducesCh
 use Rattle.chart.proofs.Lists.{length-part}
 use Rattle.chart.proofs.Joined.{joined-length, joined-same, joined-piece}
 use Rattle.chart.proofs.Blocks.{length-seal, length-body}
-use Rattle.chart.proofs.Writes.{tells-file, few-boxes}
+use Rattle.chart.proofs.Writes.{tells-file}
 
 -- A block that holds its check is its first 510 bytes, sealed.
 seal-front : (b : List ℕ) → length b ≡ 512 → isSealed b ≡ true → seal (take 510 b) ≡ b
@@ -115,5 +116,5 @@ reproduces-chart f h e = (ap checkFile (file-again f h e) ∙ e, ap tableOf (fil
 pub tells-length : TellsLength
 unfolding fileOf
 tells-length h table held long =
-    let few = few-boxes h held in
+    let few = in-range h held .fits in
     joined-length (λ j. seal (bodyOf h table j)) 512 (blocksFor (h .boxes)) (λ i l. length-seal _ (length-body h table i long (omega arith)))

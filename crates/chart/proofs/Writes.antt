@@ -1,13 +1,11 @@
 -- What write back tells and leaves, from the facts that lead there. Assumes nothing.
 use Prim.Native.Nat.{ℕ, _≤_, _<_}
 use mathlib.Core.Path.{_≡_}
-use mathlib.Core.List.{List, [], _∷_}
+use mathlib.Core.List.{List}
 use mathlib.Core.Bool.{true, false}
-use lib.Dec.{leb, ltb}
-use borrow.Author.Tests.{lt-ltb, le-ltb, leb-true}
+use borrow.Author.Tests.{lt-ltb, le-ltb}
 use Rattle.format.specs.File.{inRange, refusal}
 use Rattle.format.specs.declared.Header.{Header}
-use Rattle.boxes.proofs.Bools.{every}
 use Rattle.chart.specs.WriteBack.{fileLength, writeBack, bufferAfter}
 use Rattle.chart.specs.declared.Written.{Written}
 use Rattle.chart.specs.declared.Written.the-variants.{Length, Refused}
@@ -28,8 +26,3 @@ module _ (h : Header) (room : ℕ) where
 pub leaves-buffer : (w : Written) (number : ℕ) (h : Header) (table buf : List ℕ) → w ≡ Refused (refusal number 0) → buf ≡ bufferAfter w h table buf
 unfolding bufferAfter
 leaves-buffer w number h table buf e = rw e
-
-pub few-boxes : (h : Header) → inRange h ≡ true → h .boxes ≤ 204
-few-boxes h e =
-    let r = every (leb (h .inputs) 16) (leb 1 (h .boxes) ∷ leb (h .boxes) 204 ∷ ltb (h .first) (h .boxes) ∷ []) e in
-    leb-true (h .boxes) 204 (r .1 .1 .0)

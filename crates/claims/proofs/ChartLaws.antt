@@ -22,11 +22,12 @@ use Rattle.begin.specs.declared.Verdict.the-variants.{Done, Refused}
 use Rattle.rules.specs.Decode.{boxAt}
 use Rattle.rules.specs.Marks.{modeOf}
 use Rattle.runner.specs.declared.Runner.{Runner}
-use Rattle.runner.specs.State.{headerIn, isHeld, isRunning, spent, resting, endedWith, dropped}
+use Rattle.runner.specs.State.{headerIn, isHeld, isRunning, spent, idle, endedWith, dropped}
 use Rattle.runner.specs.Step.{Act, store, go, stop, act, moved, goesOn, settle, boxRun, step, run}
 use Rattle.runner.specs.Calls.{Call, load, begin, advance, answer, abandon, writeBack, wrote, chart, Outcome, fileVerdict, roomVerdict, check, says, leaves, after, carried, call}
 use Rattle.claims.specs.Lists.{Accepted, final}
 use Rattle.claims.specs.Charts.{Obeys, HeldObeys, RunsInRange, EndsInRange, NoLoad, NoLoads, LoadedIsWritten, WrittenIsLoaded}
+use Rattle.claims.proofs.Branches.{clash}
 use Rattle.claims.proofs.Carried.{call-done, not-done}
 use Rattle.claims.proofs.Reachable.{sound, accepted-file}
 use Rattle.claims.proofs.OneChart.{room-accepts, write-does, own-file, own-length}
@@ -107,7 +108,7 @@ final-kept (c ∷ cs) r n =
     record { header = rest .header ∙ one .header; table = rest .table ∙ one .table }
 
 load-does : (file : List ℕ) (r : Runner) → Accepted (load file) r
-    → call (load file) r ≡ record { told = record { reply = chart (at file 5) (at file 6); buffer = [] }; next = resting (headerOf file) (tableOf file) 0 0 0 }
+    → call (load file) r ≡ record { told = record { reply = chart (headerOf file .inputs) (headerOf file .boxes); buffer = [] }; next = idle (headerOf file) (tableOf file) }
 unfolding carried says leaves after
 load-does file r e = call-done (load file) r e
 
@@ -124,7 +125,7 @@ writes-file q file buffer e t room =
 pub loaded-is-written : LoadedIsWritten
 loaded-is-written r file buffer cs a n room =
     let e = accepted-file file r a in
-    let next : call (load file) r .next ≡ resting (headerOf file) (tableOf file) 0 0 0 = ap (λ (o : Outcome). o .next) (load-does file r a) in
+    let next : call (load file) r .next ≡ idle (headerOf file) (tableOf file) = ap (λ (o : Outcome). o .next) (load-does file r a) in
     let k = final-kept cs (call (load file) r .next) n in
     let header : headerIn (final cs (call (load file) r .next)) ≡ headerOf file = k .header ∙ ap headerIn next in
     let table : final cs (call (load file) r .next) .table ≡ tableOf file = k .table ∙ ap (λ (x : Runner). x .table) next in
@@ -141,7 +142,7 @@ wrote-accepted r buffer bytes e = on (check (writeBack buffer) r) refl e
   where
     on : (v : Verdict) → check (writeBack buffer) r ≡ v → carried v (writeBack buffer) r .told .reply ≡ wrote bytes → v ≡ Done
     on Done q z = refl
-    on (Refused x) q z = let y : _≡_ {A = ℕ} 0 1 = cc in absurd (omega arith)
+    on (Refused x) q z = clash cc
 
 -- A write back is refused where no chart is held.
 accepted-held : (r : Runner) (buffer : List ℕ) → Accepted (writeBack buffer) r → isHeld r ≡ true
@@ -169,5 +170,5 @@ written-is-loaded r r′ buffer bytes g told n =
     let loads = loads-file r′ (f .file) (f .checks ∙ ap checked.Accepted header) n in
     ap (λ (x : List ℕ). call (load x) r′) file
     ∙ load-does (f .file) r′ loads
-    ∙ sym (ap (λ (h : Header). record { told = record { reply = chart (h .inputs) (h .boxes); buffer = [] }; next = resting h (tableOf (f .file)) 0 0 0 }) header)
-    ∙ sym (ap (λ (t : List ℕ). record { told = record { reply = chart (r .inputs) (r .boxes); buffer = [] }; next = resting (headerIn r) t 0 0 0 }) (f .loads))
+    ∙ sym (ap (λ (h : Header). record { told = record { reply = chart (h .inputs) (h .boxes); buffer = [] }; next = idle h (tableOf (f .file)) }) header)
+    ∙ sym (ap (λ (t : List ℕ). record { told = record { reply = chart (r .inputs) (r .boxes); buffer = [] }; next = idle (headerIn r) t }) (f .loads))

@@ -21,6 +21,7 @@ use Rattle.runner.specs.Calls as calls
 use Rattle.runner.proofs.Runs.{run-add}
 use Rattle.claims.specs.Lists.{Accepted, tells, final, AllSuch, amount, asked}
 use Rattle.claims.specs.Demand3.{tellsValue, AnswersAsHighWater, Demand3}
+use Rattle.claims.proofs.Branches.{clash}
 use Rattle.claims.proofs.Carried.{call-done}
 use Rattle.claims.proofs.OneChart.{one-chart}
 use Rattle.claims.proofs.Secrecy.{begin-permits, begin-starts, starts-same, noninterference}
@@ -37,30 +38,27 @@ unfolding check
 answers-ended r e = running-accepts (isEnded r) 24 e
 
 -- Which call tells a value: an answer, of a run that ended so.
-no-value {ℓ} : {A : Type ℓ} → _≡_ {A = ℕ} 0 1 → A
-no-value e = absurd (omega arith)
-
 value-ended : (r : Runner) (v steps : ℕ) → ending (valued v) steps ≡ ending (endingIn r) (r .count) → Valued r v steps
 value-ended r v steps e = on (eqb (r .state) 2) refl (eqb (r .state) 3) e
   where
     on : (b : Bool) → eqb (r .state) 2 ≡ b → (c : Bool) → ending (valued v) steps ≡ ending (cond b (valued (r .value)) (cond c notice spent)) (r .count) → Valued r v steps
     on true q c z = record { state = eqb-true _ _ q; value = cc; count = cc }
-    on false q true z = no-value cc
-    on false q false z = no-value cc
+    on false q true z = clash cc
+    on false q false z = clash cc
 
 told-value : (x : Verdict) (c : Call) (r : Runner) (v steps : ℕ) → check c r ≡ x → ending (valued v) steps ≡ carried x c r .told .reply → Valued r v steps
 unfolding carried says
-told-value (Refused x) c r v steps h e = no-value cc
-told-value Done (load f) r v steps h e = no-value cc
-told-value Done (begin m i a l) r v steps h e = no-value cc
+told-value (Refused x) c r v steps h e = clash cc
+told-value Done (load f) r v steps h e = clash cc
+told-value Done (begin m i a l) r v steps h e = clash cc
 told-value Done (advance m) r v steps h e = on (isRunning (run m r)) e
   where
     on : (b : Bool) → ending (valued v) steps ≡ cond b (running (run m r .steps)) (calls.ended (run m r .count)) → Valued r v steps
-    on true z = no-value cc
-    on false z = no-value cc
+    on true z = clash cc
+    on false z = clash cc
 told-value Done answer r v steps h e = value-ended r v steps e
-told-value Done abandon r v steps h e = no-value cc
-told-value Done (writeBack b) r v steps h e = no-value cc
+told-value Done abandon r v steps h e = clash cc
+told-value Done (writeBack b) r v steps h e = clash cc
 
 -- A run that ends with a value after some boxes.
 record EndsSo (r : Runner) (v steps : ℕ) : Type 0 where

@@ -1,4 +1,5 @@
 -- The proofs of the claims: what calls do, reachable runners and the chart that two hold, unwinding, pace, and the claims themselves.
+pub mod Branches
 pub mod Carried
 pub mod Unwinding
 pub mod Decoded

@@ -11,10 +11,11 @@ use Rattle.format.specs.File.{checkFile}
 use Rattle.format.specs.declared.Header.{Header}
 use Rattle.format.specs.declared.Checked.the-variants as checked
 use Rattle.format.proofs.Accepted.{accepted}
+use Rattle.format.proofs.Ranges.{in-range}
 use Rattle.chart.specs.Chart.{tableOf, fileOf}
 use Rattle.chart.specs.WriteBack.{fileLength}
 use Rattle.chart.proofs.RoundTrip.{file-again}
-use Rattle.chart.proofs.Writes.{tells-file, few-boxes}
+use Rattle.chart.proofs.Writes.{tells-file}
 use Rattle.runner.specs.declared.Runner.{Runner}
 use Rattle.runner.specs.State.{headerIn, isHeld}
 use Rattle.runner.specs.Calls.{writeBack, wrote, Told, Outcome, roomVerdict, check, says, leaves, after, carried, call}
@@ -62,8 +63,8 @@ one-chart r r′ g g′ h h′ s =
     let buffer : List ℕ = replicate 2560 0 in
     let long : length buffer ≡ 2560 = length-replicate {A = ℕ} 2560 0 in
     let room : 2560 ≤ length buffer = omega arith in
-    let a : Accepted (writeBack buffer) r = room-accepts r buffer h (omega (arith, few-boxes (headerIn r) h)) in
-    let a′ : Accepted (writeBack buffer) r′ = room-accepts r′ buffer h′ (omega (arith, few-boxes (headerIn r′) h′)) in
+    let a : Accepted (writeBack buffer) r = room-accepts r buffer h (omega (arith, in-range (headerIn r) h .fits)) in
+    let a′ : Accepted (writeBack buffer) r′ = room-accepts r′ buffer h′ (omega (arith, in-range (headerIn r′) h′ .fits)) in
     let told = sym (ap (λ (o : Outcome). o .told) (write-does r buffer a)) ∙ s buffer room ∙ ap (λ (o : Outcome). o .told) (write-does r′ buffer a′) in
     let size : wrote n ≡ wrote n′ = ap (λ (t : Told). t .reply) told in
     let bytes = ap (λ (t : Told). t .buffer) told in

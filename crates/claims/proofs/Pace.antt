@@ -1,16 +1,14 @@
 -- Demand 3, second half. A high-water run and a surveillance run of one start stay in step, surveillance's marks lying under high-water's, until
 -- one of them ends or high-water can tell no value any more. An ended run stays still, so both are run to a common number of boxes.
 -- Assumes nothing.
-use Prim.Native.Nat.{ℕ, zero, suc, _+_, _%_, _≤_, _<_}
+use Prim.Native.Nat.{ℕ, zero, suc, _+_, _%_, _≤_}
 use mathlib.Core.Path.{_≡_, refl, sym, _∙_, subst}
 use mathlib.Core.List.{List, [], _∷_, map}
 use mathlib.Core.Bool.{Bool, true, false, cond}
-use native.Mathlib.Decide.{ℕ-discrete, decLt}
 use native.Mathlib.Omega.{arith}
 use lib.Bits.{bitOr}
 use lib.Dec.{eqb, leb}
 use lib.ListN.{length, getD, set, length-set}
-use lib.Seq.{getD-set-same, getD-set-other, set-out}
 use borrow.Author.Tests.{leb-true, ne-eqb}
 use Rattle.rules.specs.Decode.{boxAt, readBy}
 use Rattle.rules.specs.Operation.{compares}
@@ -20,6 +18,7 @@ use Rattle.rules.specs.declared.decode.FlowBox.the-variants.{Assign, Decide, Ha
 use Rattle.rules.proofs.MarkLaws.{or-none, or-zeros, union-none, marked-none, none-marked}
 use Rattle.runner.specs.declared.Runner.{Runner}
 use Rattle.runner.specs.State.{isRunning, isEnded, valued, notice, spent, endedWith}
+use Rattle.claims.proofs.Branches.{cond-both, set-each}
 use Rattle.runner.specs.Step.{entry, stop, go, act, moved, goesOn, settle, boxRun, step, run}
 
 -- The marks of surveillance lie under those of the high-water mark.
@@ -36,17 +35,10 @@ union-under {ms} {hs} h (j ∷ rs) e =
 
 set-under : {ms hs : List ℕ} → Under ms hs → (t m n : ℕ) → (n ≡ 0 → m ≡ 0) → Under (set ms t m) (set hs t n)
 set-under {ms} {hs} h t m n f =
-    record { long = simp length-set (h .long); under = λ j. on j (ℕ-discrete j t) (decLt t (length ms)) }
-  where
-    on : (j : ℕ) → Dec (j ≡ t) → Dec (t < length ms) → getD (set hs t n) j 0 ≡ 0 → getD (set ms t m) j 0 ≡ 0
-    on j (yes e) (yes l) q =
-        let lh : t < length hs = omega (arith, h .long) in
-        rw (e, getD-set-same ms t m 0) (f (rw (e, getD-set-same hs t n 0 lh) at q))
-    on j (yes e) (no l) q =
-        let lm : length ms ≤ t = omega arith in
-        let lh : length hs ≤ t = omega (arith, h .long) in
-        rw (set-out ms t m) (h .under j (rw (set-out hs t n) at q))
-    on j (no ne) d q = rw (getD-set-other ms t j m 0 ne) (h .under j (rw (getD-set-other hs t j n 0 ne) at q))
+    record {
+      long = simp length-set (h .long);
+      under = set-each (λ p q z. p ≡ 0 → q ≡ 0) hs ms ms (h .long) (h .long) (h .under) t n m m f;
+    }
 
 -- The surveillance run beside a high-water run that has no counter mark.
 abbrev beside : Runner → List ℕ → Runner
@@ -63,14 +55,6 @@ pub data Pace : Runner → Runner → Type 0 where
   both : {h s : Runner} → h .state ≡ 2 → s .state ≡ 2 → h .value ≡ s .value → h .count ≡ s .count → Pace h s
   level : {h : Runner} (ms : List ℕ) → h .state ≡ 1 → h .mode ≡ 2 → h .counter ≡ 0 → Under ms (h .marks) → Pace h (beside h ms)
 
-cond-lost : {a c : Runner} (b : Bool) → Lost a → Lost c → Lost (cond b a c)
-cond-lost true p q = p
-cond-lost false p q = q
-
-cond-pace : {a a′ c c′ : Runner} (b : Bool) → Pace a a′ → Pace c c′ → Pace (cond b a c) (cond b a′ c′)
-cond-pace true p q = p
-cond-pace false p q = q
-
 spent-lost : (steps : ℕ) (r : Runner) → Lost (endedWith spent steps r)
 unfolding endedWith
 spent-lost steps r = silent refl
@@ -82,12 +66,12 @@ notice-lost steps r = silent refl
 goes-lost : (h : Runner) (vars marks : List ℕ) (counter next : ℕ) → h .state ≡ 1 → h .mode ≡ 2 → marked counter ≡ true → Lost (goesOn h vars marks counter next)
 unfolding goesOn
 goes-lost h vars marks counter next s m c =
-    cond-lost (leb (h .limit) (h .steps + 1)) (spent-lost _ h) (counted {r = moved h vars marks counter next} s m c)
+    cond-both (λ x y. Lost x) {a′ = h} {c′ = h} (leb (h .limit) (h .steps + 1)) (spent-lost _ h) (counted {r = moved h vars marks counter next} s m c)
 
 goes-level : (h : Runner) (ms vars marks′ ms′ : List ℕ) (counter next : ℕ) → h .state ≡ 1 → h .mode ≡ 2 → counter ≡ 0 → Under ms′ marks′ → Pace (goesOn h vars marks′ counter next) (goesOn (beside h ms) vars ms′ 0 next)
 unfolding goesOn
 goes-level h ms vars marks′ ms′ counter next s m c u =
-    cond-pace (leb (h .limit) (h .steps + 1)) (lost (spent-lost _ h)) (level {h = moved h vars marks′ counter next} ms′ s m c u)
+    cond-both Pace (leb (h .limit) (h .steps + 1)) (lost (spent-lost _ h)) (level {h = moved h vars marks′ counter next} ms′ s m c u)
 
 -- A union with a mark is marked.
 marked-left : (a b : ℕ) → marked a ≡ true → marked (bitOr a b) ≡ true

@@ -14,6 +14,7 @@ use Rattle.format.specs.declared.Header.{Header}
 use Rattle.format.specs.declared.Checked.{Checked}
 use Rattle.format.specs.declared.Checked.the-variants as checked
 use Rattle.format.proofs.Accepted.{accepted}
+use Rattle.format.proofs.Ranges.{in-range}
 use Rattle.chart.specs.Chart.{tableOf, boxOf}
 use Rattle.chart.specs.Claims.{BoxInRange}
 use Rattle.chart.proofs.Rules.{stays-in-range}
@@ -24,9 +25,9 @@ use Rattle.rules.specs.declared.decode.FlowBox.{FlowBox}
 use Rattle.begin.specs.Begin.{effective}
 use Rattle.begin.specs.declared.Verdict.{Verdict}
 use Rattle.begin.specs.declared.Verdict.the-variants.{Done, Refused}
-use Rattle.begin.proofs.Begins.{permitted, few-inputs, effective-positive, effective-fits, length-vars, length-marks}
+use Rattle.begin.proofs.Begins.{permitted, effective-positive, effective-fits, length-vars, length-marks}
 use Rattle.runner.specs.declared.Runner.{Runner}
-use Rattle.runner.specs.State.{headerIn, isHeld, isRunning, isEnded, Ending, valued, notice, spent, endingIn, resting, newRunner, endedWith, dropped}
+use Rattle.runner.specs.State.{headerIn, isHeld, isRunning, isEnded, Ending, valued, notice, spent, endingIn, idle, newRunner, endedWith, dropped}
 use Rattle.runner.specs.Step.{entry, stop, go, act, moved, goesOn, settle, boxRun, step, run}
 use Rattle.runner.specs.Calls.{Call, load, begin, advance, answer, abandon, writeBack, fileVerdict, check, started, after, carried, call}
 use Rattle.claims.specs.Lists.{Reached, fresh, then}
@@ -42,24 +43,27 @@ pub record From (h : Header) (table : List ℕ) : Type 0 where
 
 pub record Sound (r : Runner) : Type 0 where
   pub held : isHeld r ≡ true → From (headerIn r) (r .table)
-  pub idle : isRunning r ≡ false → isEnded r ≡ false → r ≡ dropped r
+  pub rests : isRunning r ≡ false → isEnded r ≡ false → r ≡ dropped r
   pub runs : isRunning r ≡ true → UnderWay r
   pub ends : isEnded r ≡ true → (isHeld r ≡ true) × (r .state ≤ 4) × (r ≡ endedWith (endingIn r) (r .count) r)
 
 -- A runner without a run, and with an ended one.
-dropped-sound : (h : Header) (table : List ℕ) → (inRange h ≡ true → From h table) → Sound (resting h table 0 0 0)
+dropped-sound : (h : Header) (table : List ℕ) → (inRange h ≡ true → From h table) → Sound (idle h table)
 unfolding dropped
 dropped-sound h table f =
-    record { held = f; idle = λ e q. refl; runs = λ e. absurd (false≢true e); ends = λ e. absurd (false≢true e) }
+    record { held = f; rests = λ e q. refl; runs = λ e. absurd (false≢true e); ends = λ e. absurd (false≢true e) }
+
+over-sound : (q : Runner) → From (headerIn q) (q .table) → isHeld q ≡ true → isEnded q ≡ true → isRunning q ≡ false → q .state ≤ 4
+    → q ≡ endedWith (endingIn q) (q .count) q
+    → Sound q
+over-sound q f h e n l is =
+    record { held = λ z. f; rests = λ z y. absurd (true≢false (sym e ∙ y)); runs = λ z. absurd (false≢true (sym n ∙ z)); ends = λ z. (h, l, is) }
 
 ended-sound : (e : Ending) (steps : ℕ) (r : Runner) → From (headerIn r) (r .table) → isHeld r ≡ true → Sound (endedWith e steps r)
 unfolding endedWith
-ended-sound (valued v) steps r f h =
-    record { held = λ q. f; idle = λ q z. absurd (true≢false z); runs = λ q. absurd (false≢true q); ends = λ q. (h, omega arith, refl) }
-ended-sound notice steps r f h =
-    record { held = λ q. f; idle = λ q z. absurd (true≢false z); runs = λ q. absurd (false≢true q); ends = λ q. (h, omega arith, refl) }
-ended-sound spent steps r f h =
-    record { held = λ q. f; idle = λ q z. absurd (true≢false z); runs = λ q. absurd (false≢true q); ends = λ q. (h, omega arith, refl) }
+ended-sound (valued v) steps r f h = over-sound _ f h refl refl (omega arith) refl
+ended-sound notice steps r f h = over-sound _ f h refl refl (omega arith) refl
+ended-sound spent steps r f h = over-sound _ f h refl refl (omega arith) refl
 
 running-sound : (r : Runner) → r .state ≡ 1 → From (headerIn r) (r .table) → UnderWay r → Sound r
 running-sound r s f u =
@@ -67,7 +71,7 @@ running-sound r s f u =
       held = λ e. f;
       runs = λ e. u;
       ends = λ e. absurd (false≢true (rw s at e));
-      idle = λ e q. absurd (true≢false (rw s at e));
+      rests = λ e q. absurd (true≢false (rw s at e));
     }
 
 -- One box.
@@ -131,9 +135,9 @@ accepted-file file r e = by (isRunning r) e
 start-sound : (mode : ℕ) (inputs : List ℕ) (allowed limit : ℕ) (r : Runner) → check (begin mode inputs allowed limit) r ≡ Done → Sound r → Sound (started r mode inputs allowed (effective limit))
 unfolding check
 start-sound mode inputs allowed limit r e h =
-    let p = permitted (headerIn r) (r .state) mode (length inputs) allowed limit e in
+    let p = permitted (headerIn r) (isRunning r) mode (length inputs) allowed limit e in
     let f = h .held (p .held) in
-    let few = few-inputs (headerIn r) (p .held) in
+    let few = in-range (headerIn r) (p .held) .few in
     let many : length inputs ≤ 32 = omega (arith, p .lent) in
     running-sound (started r mode inputs allowed (effective limit)) refl f
     (record {

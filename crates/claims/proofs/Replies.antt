@@ -1,7 +1,6 @@
 -- No two answers of one enum tell the same: constructors are distinct and injective. Assumes nothing.
 use Prim.Native.Nat.{ℕ}
 use mathlib.Core.Path.{_≡_, refl, ap, _∙_}
-use native.Mathlib.Omega.{arith}
 use Rattle.format.specs.File.{refusal}
 use Rattle.format.specs.declared.Refusal.{Refusal}
 use Rattle.chart.specs.declared.Written.the-variants as written
@@ -11,10 +10,8 @@ use Rattle.runner.specs.declared.AdvanceTold.the-variants as advance
 use Rattle.runner.specs.declared.AnswerTold.the-variants as answer
 use Rattle.runner.specs.Calls.{turnedAway}
 use Rattle.runner.specs.Replies.{loadReply, verdictReply, advanceReply, answerReply, writtenReply}
+use Rattle.claims.proofs.Branches.{clash}
 use Rattle.claims.specs.Distinct.{Injective, RepliesDistinct}
-
-other {ℓ} : {A : Type ℓ} → _≡_ {A = ℕ} 0 1 → A
-other e = absurd (omega arith)
 
 refusal-once : (x y : Refusal) → turnedAway x ≡ turnedAway y → x ≡ y
 refusal-once x y e =
@@ -25,53 +22,53 @@ refusal-once x y e =
 load-once : Injective loadReply
 unfolding loadReply
 load-once (load.Chart k n) (load.Chart k′ n′) e = cc
-load-once (load.Chart k n) (load.Refused y) e = other cc
-load-once (load.Refused x) (load.Chart k n) e = other cc
+load-once (load.Chart k n) (load.Refused y) e = clash cc
+load-once (load.Refused x) (load.Chart k n) e = clash cc
 load-once (load.Refused x) (load.Refused y) e = ap load.Refused (refusal-once x y e)
 
 verdict-once : Injective verdictReply
 unfolding verdictReply
 verdict-once verdict.Done verdict.Done e = refl
-verdict-once verdict.Done (verdict.Refused y) e = other cc
-verdict-once (verdict.Refused x) verdict.Done e = other cc
+verdict-once verdict.Done (verdict.Refused y) e = clash cc
+verdict-once (verdict.Refused x) verdict.Done e = clash cc
 verdict-once (verdict.Refused x) (verdict.Refused y) e = ap verdict.Refused (refusal-once x y e)
 
 advance-once : Injective advanceReply
 unfolding advanceReply
 advance-once (advance.Running s) (advance.Running t) e = cc
-advance-once (advance.Running s) (advance.Ended t) e = other cc
-advance-once (advance.Running s) (advance.Refused y) e = other cc
-advance-once (advance.Ended s) (advance.Running t) e = other cc
+advance-once (advance.Running s) (advance.Ended t) e = clash cc
+advance-once (advance.Running s) (advance.Refused y) e = clash cc
+advance-once (advance.Ended s) (advance.Running t) e = clash cc
 advance-once (advance.Ended s) (advance.Ended t) e = cc
-advance-once (advance.Ended s) (advance.Refused y) e = other cc
-advance-once (advance.Refused x) (advance.Running t) e = other cc
-advance-once (advance.Refused x) (advance.Ended t) e = other cc
+advance-once (advance.Ended s) (advance.Refused y) e = clash cc
+advance-once (advance.Refused x) (advance.Running t) e = clash cc
+advance-once (advance.Refused x) (advance.Ended t) e = clash cc
 advance-once (advance.Refused x) (advance.Refused y) e = ap advance.Refused (refusal-once x y e)
 
 answer-once : Injective answerReply
 unfolding answerReply
 answer-once (answer.Value v s) (answer.Value w t) e = cc
-answer-once (answer.Value v s) (answer.Notice t) e = other cc
-answer-once (answer.Value v s) (answer.Spent t) e = other cc
-answer-once (answer.Value v s) (answer.Refused y) e = other cc
-answer-once (answer.Notice s) (answer.Value w t) e = other cc
+answer-once (answer.Value v s) (answer.Notice t) e = clash cc
+answer-once (answer.Value v s) (answer.Spent t) e = clash cc
+answer-once (answer.Value v s) (answer.Refused y) e = clash cc
+answer-once (answer.Notice s) (answer.Value w t) e = clash cc
 answer-once (answer.Notice s) (answer.Notice t) e = cc
-answer-once (answer.Notice s) (answer.Spent t) e = other cc
-answer-once (answer.Notice s) (answer.Refused y) e = other cc
-answer-once (answer.Spent s) (answer.Value w t) e = other cc
-answer-once (answer.Spent s) (answer.Notice t) e = other cc
+answer-once (answer.Notice s) (answer.Spent t) e = clash cc
+answer-once (answer.Notice s) (answer.Refused y) e = clash cc
+answer-once (answer.Spent s) (answer.Value w t) e = clash cc
+answer-once (answer.Spent s) (answer.Notice t) e = clash cc
 answer-once (answer.Spent s) (answer.Spent t) e = cc
-answer-once (answer.Spent s) (answer.Refused y) e = other cc
-answer-once (answer.Refused x) (answer.Value w t) e = other cc
-answer-once (answer.Refused x) (answer.Notice t) e = other cc
-answer-once (answer.Refused x) (answer.Spent t) e = other cc
+answer-once (answer.Spent s) (answer.Refused y) e = clash cc
+answer-once (answer.Refused x) (answer.Value w t) e = clash cc
+answer-once (answer.Refused x) (answer.Notice t) e = clash cc
+answer-once (answer.Refused x) (answer.Spent t) e = clash cc
 answer-once (answer.Refused x) (answer.Refused y) e = ap answer.Refused (refusal-once x y e)
 
 written-once : Injective writtenReply
 unfolding writtenReply
 written-once (written.Length n) (written.Length m) e = cc
-written-once (written.Length n) (written.Refused y) e = other cc
-written-once (written.Refused x) (written.Length m) e = other cc
+written-once (written.Length n) (written.Refused y) e = clash cc
+written-once (written.Refused x) (written.Length m) e = clash cc
 written-once (written.Refused x) (written.Refused y) e = ap written.Refused (refusal-once x y e)
 
 pub replies-distinct : RepliesDistinct

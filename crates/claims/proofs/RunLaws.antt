@@ -16,6 +16,7 @@ use Rattle.runner.specs.Calls.{Call, load, begin, advance, answer, abandon, wri
 use Rattle.runner.proofs.Runs.{run-add}
 use Rattle.claims.specs.Lists.{Accepted, tells, AllSuch}
 use Rattle.claims.specs.Runs.{RefusalChangesNothing, AdvancesJoin, CountsBoxes, LimitEnds, stepsTold, WithinLimit, Cleared}
+use Rattle.claims.proofs.Branches.{clash}
 use Rattle.claims.proofs.Carried.{call-done}
 use Rattle.claims.proofs.Reachable.{sound}
 use Rattle.claims.proofs.Secrecy.{begin-starts}
@@ -23,21 +24,18 @@ use Rattle.claims.proofs.SuchCalls.{such-next, such-final, After, ended
 use Rattle.claims.proofs.Demand3.{ended-answers, answers-ended}
 
 -- A call that is not refused tells no refusal.
-zero-one {ℓ} : {A : Type ℓ} → _≡_ {A = ℕ} 0 1 → A
-zero-one e = absurd (omega arith)
-
 not-refused : (c : Call) (r : Runner) (number detail : ℕ) → says c r ≡ refused number detail → ⊥
 unfolding says
-not-refused (load f) r n d e = zero-one cc
-not-refused (begin m i a l) r n d e = zero-one cc
+not-refused (load f) r n d e = clash cc
+not-refused (begin m i a l) r n d e = clash cc
 not-refused (advance m) r n d e = on (isRunning (run m r)) e
   where
     on : (b : Bool) → cond b (running (run m r .steps)) (ended (run m r .count)) ≡ refused n d → ⊥
-    on true z = zero-one cc
-    on false z = zero-one cc
-not-refused answer r n d e = zero-one cc
-not-refused abandon r n d e = zero-one cc
-not-refused (writeBack b) r n d e = zero-one cc
+    on true z = clash cc
+    on false z = clash cc
+not-refused answer r n d e = clash cc
+not-refused abandon r n d e = clash cc
+not-refused (writeBack b) r n d e = clash cc
 
 pub refusal-changes-nothing : RefusalChangesNothing
 unfolding call carried
@@ -98,7 +96,7 @@ module _ (r : Runner) (mode : ℕ) (inputs : List ℕ) (allowed limit : ℕ) (a 
   counts-running m s e = by (from-start m) (sym (ap (λ (o : Outcome). o .told .reply) (advance-start m)) ∙ e)
     where
       by : {q : Runner} → After m (effective limit) start q → cond (isRunning q) (running (q .steps)) (ended (q .count)) ≡ running s → s ≡ m
-      by {q} (ended-within f c) z = let w : ended (q .count) ≡ running s = rw (not-one (q .state) (f .over)) at z in zero-one cc
+      by {q} (ended-within f c) z = let w : ended (q .count) ≡ running s = rw (not-one (q .state) (f .over)) at z in clash cc
       by {q} (counted-below f c b) z =
           let w : running (q .steps) ≡ running s = rw f at z in
           let v : q .steps ≡ s = cc in
@@ -126,7 +124,7 @@ module _ (r : Runner) (mode : ℕ) (inputs : List ℕ) (allowed limit : ℕ) (a 
             rw less (ap (λ (o : Outcome). o .told .reply) (advance-start (f .boxes)) ∙ rw (on, steps)),
             advance-start s ∙ ap (λ (n : ℕ). advanced (run n start)) all ∙ ap advanced (f .last ∙ sym there) ∙ sym (advance-start m),
           )
-      by {q} (counted-below f c b) there z = let w : running (q .steps) ≡ ended s = rw f at z in zero-one cc
+      by {q} (counted-below f c b) there z = let w : running (q .steps) ≡ ended s = rw f at z in clash cc
 
 pub counts-boxes : CountsBoxes
 counts-boxes r mode inputs allowed limit a m s =
@@ -175,4 +173,4 @@ within-limit r mode inputs allowed limit a cs q t m =
     list-within cs _ (effective limit) q (λ k. subst (λ (x : Runner). stepsOf (run k x) ≤ effective limit) (sym b) (run-within k (start r mode inputs allowed limit a) refl (effective-positive limit))) t m
 
 pub cleared : Cleared
-cleared r g = (sound g .idle, λ e. sound g .ends e .2)
+cleared r g = (sound g .rests, λ e. sound g .ends e .2)

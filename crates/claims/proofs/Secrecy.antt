@@ -6,10 +6,11 @@ use mathlib.Core.List.{List}
 use native.Mathlib.Omega.{arith}
 use lib.ListN.{length}
 use Rattle.format.specs.declared.Header.{Header}
+use Rattle.format.proofs.Ranges.{in-range}
 use Rattle.begin.specs.Begin.{effective, firstVars}
-use Rattle.begin.proofs.Begins.{Permitted, permitted, few-inputs, length-vars, length-marks, first-agree}
+use Rattle.begin.proofs.Begins.{Permitted, permitted, length-vars, length-marks, first-agree}
 use Rattle.runner.specs.declared.Runner.{Runner}
-use Rattle.runner.specs.State.{headerIn}
+use Rattle.runner.specs.State.{headerIn, isRunning}
 use Rattle.runner.specs.Calls.{begin, Outcome, check, started, after, carried, call}
 use Rattle.claims.specs.Lists.{Accepted, tells}
 use Rattle.claims.specs.Demand3.{AllowedAlike, Noninterference}
@@ -18,9 +19,9 @@ use Rattle.claims.proofs.OneChart.{SameChart, one-chart}
 use Rattle.claims.proofs.Unwinding.{LowEqual, apart, tells-low}
 
 -- An accepted begin.
-pub begin-permits : (mode : ℕ) (inputs : List ℕ) (allowed limit : ℕ) (r : Runner) → Accepted (begin mode inputs allowed limit) r → Permitted (headerIn r) (r .state) mode (length inputs) allowed limit
+pub begin-permits : (mode : ℕ) (inputs : List ℕ) (allowed limit : ℕ) (r : Runner) → Accepted (begin mode inputs allowed limit) r → Permitted (headerIn r) (isRunning r) mode (length inputs) allowed limit
 unfolding check
-begin-permits mode inputs allowed limit r e = permitted (headerIn r) (r .state) mode (length inputs) allowed limit e
+begin-permits mode inputs allowed limit r e = permitted (headerIn r) (isRunning r) mode (length inputs) allowed limit e
 
 pub begin-starts : (mode : ℕ) (inputs : List ℕ) (allowed limit : ℕ) (r : Runner) → Accepted (begin mode inputs allowed limit) r → call (begin mode inputs allowed limit) r .next ≡ started r mode inputs allowed (effective limit)
 unfolding carried after
@@ -51,6 +52,6 @@ noninterference r r′ g g′ s inputs inputs′ allowed limit limit′ f el a a
     let c = one-chart r r′ g g′ (p .held) (p′ .held) s in
     let k : r .inputs ≡ r′ .inputs = ap (λ (h : Header). h .inputs) (c .header) in
     ap (tells cs) (begin-starts 1 inputs allowed limit r a)
-    ∙ tells-low cs (start-low r inputs inputs′ allowed (effective limit) (few-inputs (headerIn r) (p .held)) (p .lent) (p′ .lent ∙ sym k) f)
+    ∙ tells-low cs (start-low r inputs inputs′ allowed (effective limit) (in-range (headerIn r) (p .held) .few) (p .lent) (p′ .lent ∙ sym k) f)
     ∙ ap (tells cs) (starts-same r r′ 1 inputs′ allowed (effective limit) (effective limit′) c el)
     ∙ sym (ap (tells cs) (begin-starts 1 inputs′ allowed limit′ r′ a′))

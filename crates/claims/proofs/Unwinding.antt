@@ -1,16 +1,13 @@
 -- Unwinding for surveillance. Two runners are low-equal when they are the same, or both have a surveillance run under way and differ only in
 -- variables that are marked. A box keeps that (step consistency), so does every call, and every call tells the same (output consistency);
 -- then one induction over the list. Assumes nothing.
-use Prim.Native.Nat.{ℕ, zero, suc, _+_, _%_, _<_, _≤_}
+use Prim.Native.Nat.{ℕ, zero, suc, _+_, _%_}
 use mathlib.Core.Path.{_≡_, refl, ap, sym, subst}
 use mathlib.Core.List.{List, [], _∷_, map}
 use mathlib.Core.Bool.{Bool, true, false, cond}
-use native.Mathlib.Decide.{ℕ-discrete, decLt}
-use native.Mathlib.Omega.{arith}
 use lib.Bits.{bitOr}
 use lib.Dec.{eqb, leb}
 use lib.ListN.{length, getD, set, length-set}
-use lib.Seq.{getD-set-same, getD-set-other, set-out}
 use Rattle.rules.specs.Decode.{boxAt, readBy}
 use Rattle.rules.specs.Operation.{valueOf, compares}
 use Rattle.rules.specs.Marks.{surveillance, modeOf, marked, union, targetMark, decisionNotices, counterMark, haltNotices}
@@ -25,6 +22,7 @@ use Rattle.runner.specs.Step.{entry, stop, go, act, moved, goesOn, settle, boxR
 use Rattle.runner.specs.Calls.{Call, load, begin, advance, answer, abandon, writeBack, Reply, running, Outcome, check, says, leaves, after, carried, call}
 use Rattle.runner.specs.Calls as calls
 use Rattle.claims.specs.Lists.{tells}
+use Rattle.claims.proofs.Branches.{cond-both, set-each}
 use Rattle.claims.proofs.Carried.{no-load, no-begin, no-answer}
 
 -- Two lists of values that agree wherever there is no mark.
@@ -46,21 +44,8 @@ set-agree {marks} {v} {w} h t x y m f =
     record {
       left = simp length-set (h .left);
       right = simp length-set (h .right);
-      agree = λ j. on j (ℕ-discrete j t) (decLt t (length marks));
+      agree = set-each (λ n p q. n ≡ 0 → p ≡ q) marks v w (h .left) (h .right) (h .agree) t m x y f;
     }
-  where
-    on : (j : ℕ) → Dec (j ≡ t) → Dec (t < length marks) → getD (set marks t m) j 0 ≡ 0 → getD (set v t x) j 0 ≡ getD (set w t y) j 0
-    on j (yes e) (yes l) q =
-        let lv : t < length v = omega (arith, h .left) in
-        let lw : t < length w = omega (arith, h .right) in
-        let z : m ≡ 0 = rw (e, getD-set-same marks t m 0 l) at q in
-        rw (e, getD-set-same v t x 0, getD-set-same w t y 0) (f z)
-    on j (yes e) (no l) q =
-        let lm : length marks ≤ t = omega arith in
-        let lv : length v ≤ t = omega (arith, h .left) in
-        let lw : length w ≤ t = omega (arith, h .right) in
-        rw (set-out v t x, set-out w t y) (h .agree j (rw (set-out marks t m) at q))
-    on j (no ne) d q = rw (getD-set-other v t j x 0 ne, getD-set-other w t j y 0 ne) (h .agree j (rw (getD-set-other marks t j m 0 ne) at q))
 
 -- The runner with other values in its variables.
 abbrev pub withVars : Runner → List ℕ → Runner
@@ -71,14 +56,10 @@ pub data LowEqual : Runner → Runner → Type 0 where
   same : {r : Runner} → LowEqual r r
   apart : {r : Runner} (w : List ℕ) → r .state ≡ 1 → r .mode ≡ 1 → Agree (r .marks) (r .vars) w → LowEqual r (withVars r w)
 
-cond-low : {a a′ c c′ : Runner} (b : Bool) → LowEqual a a′ → LowEqual c c′ → LowEqual (cond b a c) (cond b a′ c′)
-cond-low true p q = p
-cond-low false p q = q
-
 goes-low : (r : Runner) (w v′ w′ marks′ : List ℕ) (counter next : ℕ) → r .state ≡ 1 → r .mode ≡ 1 → Agree marks′ v′ w′ → LowEqual (goesOn r v′ marks′ counter next) (goesOn (withVars r w) w′ marks′ counter next)
 unfolding goesOn endedWith
 goes-low r w v′ w′ marks′ counter next s m h =
-    cond-low (leb (r .limit) (r .steps + 1)) same (apart {r = moved r v′ marks′ counter next} w′ s m h)
+    cond-both LowEqual (leb (r .limit) (r .steps + 1)) same (apart {r = moved r v′ marks′ counter next} w′ s m h)
 
 -- Step consistency.
 settle-low : (r : Runner) (w : List ℕ) (b : FlowBox) → r .state ≡ 1 → r .mode ≡ 1 → Agree (r .marks) (r .vars) w → LowEqual (settle (act surveillance b (r .vars) (r .marks) (r .counter)) r) (settle (act surveillance b w (r .marks) (r .counter)) (withVars r w))

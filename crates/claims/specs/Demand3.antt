@@ -21,9 +21,9 @@ HoldOneChart r r′ =
 abbrev pub AllowedAlike : ℕ → List ℕ → List ℕ → Type 0
 AllowedAlike allowed inputs inputs′ = (j : ℕ) → allows allowed j ≡ true → getD inputs j 0 ≡ getD inputs′ j 0
 
--- The first half, the secrecy rule, "a single claim about a whole list of calls, not one for each call". "Take two runners that hold one chart, whatever calls made them, and on each an accepted surveillance begin
--- with the same allowed set, step limit and allowed inputs. For every list of calls .. given alike to both, .. both have by its end told exactly
--- the same". "In both halves limit 0 counts as the number it means."
+-- The first half, the secrecy rule, "a single claim about a whole list of calls, not one for each call". "Take two runners that hold one chart,
+-- whatever calls made them, and on each an accepted surveillance begin with the same allowed set, step limit and allowed inputs. For every list
+-- of calls .. given alike to both, .. both have by its end told exactly the same". "In both halves limit 0 counts as the number it means."
 abbrev pub Noninterference : Type 0
 Noninterference =
     (r r′ : Runner)

@@ -24,29 +24,29 @@ AdvancesJoin =
     → isRunning (call (advance m) r .next) ≡ true
     → call (advance p) (call (advance m) r .next) ≡ call (advance (m + p)) r
 
--- "Each box run counts one, the box that ends the run included": an advance by m from the begin that leaves the run under way tells m steps;
+-- What holds of every run at its start: after each accepted begin, of the number that its limit means and the runner handed back.
+abbrev pub AfterBegin : (ℕ → Runner → Type 0) → Type 0
+AfterBegin P =
+    (r : Runner) (mode : ℕ) (inputs : List ℕ) (allowed limit : ℕ)
+    → Accepted (begin mode inputs allowed limit) r
+    → P (effective limit) (call (begin mode inputs allowed limit) r .next)
+
+-- "Each box run counts one, the box that ends the run included": an advance by m from the start that leaves the run under way tells m steps;
 -- one that ends it tells s steps where an advance by s ends it so and one by s - 1 does not.
 abbrev pub CountsBoxes : Type 0
 CountsBoxes =
-    (r : Runner) (mode : ℕ) (inputs : List ℕ) (allowed limit : ℕ)
-    → Accepted (begin mode inputs allowed limit) r
-    → (m s : ℕ)
-    → (call (advance m) (call (begin mode inputs allowed limit) r .next) .told .reply ≡ running s → s ≡ m)
-    × (call (advance m) (call (begin mode inputs allowed limit) r .next) .told .reply ≡ ended s
+    AfterBegin
+    (λ limit start. (m s : ℕ)
+    → (call (advance m) start .told .reply ≡ running s → s ≡ m)
+    × (call (advance m) start .told .reply ≡ ended s
     → (1 ≤ s)
     × (s ≤ m)
-    × (call (advance (s - 1)) (call (begin mode inputs allowed limit) r .next) .told .reply ≡ running (s - 1))
-    × (call (advance s) (call (begin mode inputs allowed limit) r .next) ≡ call (advance m) (call (begin mode inputs allowed limit) r .next)))
+    × (call (advance (s - 1)) start .told .reply ≡ running (s - 1))
+    × (call (advance s) start ≡ call (advance m) start)))
 
 -- "Advances that add up to the limit always end a run", in every mode.
 abbrev pub LimitEnds : Type 0
-LimitEnds =
-    (r : Runner) (mode : ℕ) (inputs : List ℕ) (allowed limit : ℕ)
-    → Accepted (begin mode inputs allowed limit) r
-    → (cs : List Call)
-    → AllSuch cs (call (begin mode inputs allowed limit) r .next)
-    → effective limit ≤ asked cs
-    → Ends cs (call (begin mode inputs allowed limit) r .next)
+LimitEnds = AfterBegin (λ limit start. (cs : List Call) → AllSuch cs start → limit ≤ asked cs → Ends cs start)
 
 -- The steps that a reply tells.
 abbrev pub stepsTold : Reply → ℕ
@@ -61,13 +61,7 @@ stepsTold (refused number detail) = 0
 -- The steps told never pass the limit.
 abbrev pub WithinLimit : Type 0
 WithinLimit =
-    (r : Runner) (mode : ℕ) (inputs : List ℕ) (allowed limit : ℕ)
-    → Accepted (begin mode inputs allowed limit) r
-    → (cs : List Call)
-    → AllSuch cs (call (begin mode inputs allowed limit) r .next)
-    → (t : Told)
-    → List·Memᴰ t (tells cs (call (begin mode inputs allowed limit) r .next))
-    → stepsTold (t .reply) ≤ effective limit
+    AfterBegin (λ limit start. (cs : List Call) → AllSuch cs start → (t : Told) → List·Memᴰ t (tells cs start) → stepsTold (t .reply) ≤ limit)
 
 -- "When a run ends or is dropped, the variables, their marks and the counter mark become 0": a runner with no run keeps the chart and nothing
 -- else, and one with an ended run keeps the chart and the ending.

@@ -2,8 +2,8 @@
 use Prim.Native.Nat.{ℕ}
 use mathlib.Core.Path.{_≡_}
 use mathlib.Core.List.{List, [], _∷_, map}
-use Rattle.boxes.specs.Bytes.{at}
 use Rattle.format.specs.Block.{checksum}
+use Rattle.format.specs.File.{headerOf}
 use Rattle.rules.specs.Operation.{valueOf}
 use Rattle.begin.specs.Begin.{effective}
 use Rattle.runner.specs.State.{Ending, valued, notice, spent, newRunner}
@@ -62,7 +62,7 @@ replies c =
     (tells (load (c .file) ∷ begin (c .mode) (c .inputs) (c .allowed) (c .limit) ∷ advance (effective (c .limit)) ∷ answer ∷ []) newRunner)
 
 abbrev pub expected : RunCase → List Reply
-expected c = chart (at (c .file) 5) (at (c .file) 6) ∷ done ∷ ended (c .steps) ∷ ending (c .ending) (c .steps) ∷ []
+expected c = chart (headerOf (c .file) .inputs) (headerOf (c .file) .boxes) ∷ done ∷ ended (c .steps) ∷ ending (c .ending) (c .steps) ∷ []
 
 -- "4,294,967,295 plus 1 is 0; 0 minus 1 is 4,294,967,295; 7 by 0 leaves quotient 0, remainder 7; one bits of 4,294,967,295: 32."
 unfoldable pub arithmetic : List ℕ

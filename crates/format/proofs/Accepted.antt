@@ -5,9 +5,9 @@ use mathlib.Core.Path.{_≡_, refl}
 use mathlib.Core.List.{List, [], _∷_}
 use mathlib.Core.Bool.{Bool, true, false, cond, not}
 use native.Mathlib.Omega.{arith}
-use lib.Dec.{eqb, ltb, leb}
+use lib.Dec.{eqb, ltb}
 use lib.ListN.{length}
-use borrow.Author.Tests.{eqb-true, ltb-true, leb-true, not-false}
+use borrow.Author.Tests.{eqb-true, not-false}
 use Rattle.boxes.specs.Bytes.{at, part, allZero}
 use Rattle.format.specs.Search.{firstFailing}
 use Rattle.format.specs.Block.{isSealed}
@@ -15,9 +15,10 @@ use Rattle.format.specs.File.{blockOf, blocksFor, headerOf, inRange, len
 use Rattle.format.specs.declared.Header.{Header}
 use Rattle.format.specs.declared.Checked.{Checked}
 use Rattle.format.specs.declared.Checked.the-variants as checked
-use Rattle.boxes.proofs.Bools.{and-left, every}
+use Rattle.boxes.proofs.Bools.{and-left, and-right, every}
 use Rattle.format.proofs.Search.{all-hold}
 use Rattle.format.proofs.Places.{blocks-of}
+use Rattle.format.proofs.Ranges.{in-range}
 
 -- What check 3 says of the first bytes.
 pub record Letters (f : List ℕ) : Type 0 where
@@ -56,30 +57,8 @@ letters-of f e =
       f4 = eqb-true (at f 4) 1 (r .1 .1 .1 .1 .0);
     }
 
--- What check 4 says of the header.
-record Sound (f : List ℕ) : Type 0 where
-  few : at f 5 ≤ 16
-  some : 1 ≤ at f 6
-  fits : at f 6 ≤ 204
-  start : at f 7 < at f 6
-  ranged : inRange (headerOf f) ≡ true
-  rest : allZero (part f 8 502) ≡ true
-
-sound-of : (f : List ℕ) → headerRule f ≡ true → Sound f
-unfolding headerRule
-sound-of f e =
-    let r = every (leb (at f 5) 16) (leb 1 (at f 6) ∷ leb (at f 6) 204 ∷ ltb (at f 7) (at f 6) ∷ allZero (part f 8 502) ∷ []) e in
-    record {
-      few = leb-true (at f 5) 16 (r .0);
-      some = leb-true 1 (at f 6) (r .1 .0);
-      fits = leb-true (at f 6) 204 (r .1 .1 .0);
-      start = ltb-true (at f 7) (at f 6) (r .1 .1 .1 .0);
-      ranged = and-left (inRange (headerOf f)) (allZero (part f 8 502)) e;
-      rest = r .1 .1 .1 .1 .0;
-    }
-
 pub accepted : (f : List ℕ) (h : Header) → checkFile f ≡ checked.Accepted h → Accepted f h
-unfolding checkFile
+unfolding checkFile headerRule
 accepted f h e =
     let blocks = length f / 512 in
     let places = 51 * (blocks - 1) in
@@ -93,7 +72,9 @@ accepted f h e =
     let six = passed (ltb broken places) 6 broken (five .1) in
     let same : h ≡ headerOf f = cc (six .1) in
     let b = blocks-of (length f) (not-false _ (one .0)) in
-    let s = sound-of f (not-false _ (four .0)) in
+    let rule = not-false (headerRule f) (four .0) in
+    let ranged = and-left (inRange (headerOf f)) (allZero (part f 8 502)) rule in
+    let s = in-range (headerOf f) ranged in
     let size : blocks ≡ blocksFor (at f 6) = eqb-true _ _ (not-false _ (five .0)) in
     rw same
     (record {
@@ -103,8 +84,8 @@ accepted f h e =
       fits = s .fits;
       few = s .few;
       start = s .start;
-      ranged = s .ranged;
-      rest = s .rest;
+      ranged = ranged;
+      rest = and-right (inRange (headerOf f)) (allZero (part f 8 502)) rule;
       letters = letters-of f (not-false _ (three .0));
       checks = λ j l. all-hold (λ i. isSealed (blockOf f i)) blocks (two .0) j (omega arith);
       places = λ p l. all-hold (placeRule f (at f 5) (at f 6)) places (six .0) p (omega arith);

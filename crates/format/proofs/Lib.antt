@@ -3,4 +3,5 @@ pub mod Search
 pub mod Sums
 pub mod Places
 pub mod Checks
+pub mod Ranges
 pub mod Accepted

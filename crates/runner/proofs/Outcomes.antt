@@ -24,7 +24,7 @@ use Rattle.runner.specs.declared.Runner.{Runner}
 use Rattle.runner.specs.declared.LoadTold.the-variants as load
 use Rattle.runner.specs.declared.AdvanceTold.the-variants as advance
 use Rattle.runner.specs.declared.AnswerTold.the-variants as answer
-use Rattle.runner.specs.State.{headerIn, isRunning, endingIn, resting, dropped}
+use Rattle.runner.specs.State.{headerIn, isRunning, endingIn, idle, dropped}
 use Rattle.runner.specs.Step.{run}
 use Rattle.runner.specs.Calls.{Call, fileVerdict, roomVerdict, check, says, leaves, after, carried, call}
 use Rattle.runner.specs.Calls as calls
@@ -40,12 +40,13 @@ module _ (file : List ℕ) (r : Runner) where
   unfolding check loadReply carried
   load-busy x d e = ap (λ (y : Refusal). outcome (calls.turnedAway y) [] r) d ∙ by-verdict (calls.load file) r (refuse 22) (rw e)
 
-  pub load-accepts : (h : Header) (table : List ℕ) → (r .state ≡ 1 → ⊥) → checkFile file ≡ checked.Accepted h → table ≡ tableOf file
-      → outcome (loadReply (load.Chart (h .inputs) (h .boxes))) [] (resting h table 0 0 0) ≡ call (calls.load file) r
+  pub load-accepts : (h : Header) (table : List ℕ) (next : Runner) → (r .state ≡ 1 → ⊥) → checkFile file ≡ checked.Accepted h → table ≡ tableOf file
+      → next ≡ idle h table
+      → outcome (loadReply (load.Chart (h .inputs) (h .boxes))) [] next ≡ call (calls.load file) r
   unfolding check fileVerdict loadReply carried says leaves after
-  load-accepts h table n e t =
-      ap (λ (x : List ℕ). outcome (calls.chart (h .inputs) (h .boxes)) [] (resting h x 0 0 0)) t
-      ∙ ap (λ (x : Header). outcome (calls.chart (x .inputs) (x .boxes)) [] (resting x (tableOf file) 0 0 0)) (accepted file h e .header)
+  load-accepts h table next n e t d =
+      ap (outcome (calls.chart (h .inputs) (h .boxes)) []) (d ∙ ap (λ (x : List ℕ). idle h x) t)
+      ∙ ap (λ (x : Header). outcome (calls.chart (x .inputs) (x .boxes)) [] (idle x (tableOf file))) (accepted file h e .header)
       ∙ by-verdict (calls.load file) r Done (rw (ne-eqb _ _ n, e))
 
   pub load-refuses : (x : Refusal) → (r .state ≡ 1 → ⊥) → checkFile file ≡ checked.Refused x → outcome (loadReply (load.Refused x)) [] r ≡ call (calls.load file) r
@@ -59,7 +60,7 @@ module _ (mode : ℕ) (inputs : List ℕ) (allowed limit : ℕ) (r : Runner) whe
   startedWith vars marks l =
       record { table = r .table; vars = vars; marks = marks; counter = 0; inputs = r .inputs; boxes = r .boxes; first = r .first; mode = mode; at = r .first; limit = l; steps = 0; state = 1; count = 0; value = 0 }
 
-  pub begin-starts : (vars marks : List ℕ) (l : ℕ) → beginVerdict (headerIn r) (r .state) mode (length inputs) allowed limit ≡ Done
+  pub begin-starts : (vars marks : List ℕ) (l : ℕ) → beginVerdict (headerIn r) (isRunning r) mode (length inputs) allowed limit ≡ Done
       → vars ≡ firstVars inputs → marks ≡ firstMarks allowed (r .inputs) → l ≡ effective limit
       → outcome (verdictReply Done) [] (startedWith vars marks l) ≡ call (calls.begin mode inputs allowed limit) r
   unfolding check verdictReply carried says leaves after
@@ -69,7 +70,7 @@ module _ (mode : ℕ) (inputs : List ℕ) (allowed limit : ℕ) (r : Runner) whe
       ∙ ap (λ (x : ℕ). outcome calls.done [] (startedWith (firstVars inputs) (firstMarks allowed (r .inputs)) x)) el
       ∙ by-verdict (calls.begin mode inputs allowed limit) r Done e
 
-  pub begin-refuses : (v : Verdict) (x : Refusal) → v ≡ beginVerdict (headerIn r) (r .state) mode (length inputs) allowed limit → v ≡ Refused x
+  pub begin-refuses : (v : Verdict) (x : Refusal) → v ≡ beginVerdict (headerIn r) (isRunning r) mode (length inputs) allowed limit → v ≡ Refused x
       → outcome (verdictReply v) [] r ≡ call (calls.begin mode inputs allowed limit) r
   unfolding check verdictReply carried
   begin-refuses v x e d =
@@ -109,7 +110,7 @@ module _ (r : Runner) where
   unfolding check verdictReply carried
   abandon-refuses v n e = ap (λ (x : Verdict). outcome (verdictReply x) [] r) e ∙ by-verdict calls.abandon r (refuse 23) (rw (ne-eqb _ _ n))
 
-  pub abandon-drops : (q : Runner) → r .state ≡ 1 → q ≡ resting (headerIn r) (r .table) 0 0 0 → outcome (verdictReply Done) [] q ≡ call calls.abandon r
+  pub abandon-drops : (q : Runner) → r .state ≡ 1 → q ≡ idle (headerIn r) (r .table) → outcome (verdictReply Done) [] q ≡ call calls.abandon r
   unfolding check verdictReply carried says leaves after dropped
   abandon-drops q e d = ap (outcome calls.done []) d ∙ by-verdict calls.abandon r Done (rw e)
 

@@ -3,7 +3,6 @@ use Prim.Native.Nat.{ℕ}
 use mathlib.Core.List.{List, [], _++_}
 use mathlib.Core.Bool.{cond}
 use lib.ListN.{length, drop}
-use Rattle.boxes.specs.Bytes.{at}
 use Rattle.format.specs.File.{headerOf, checkFile}
 use Rattle.format.specs.declared.Refusal.{Refusal}
 use Rattle.format.specs.declared.Checked.{Checked}
@@ -17,7 +16,7 @@ use Rattle.begin.specs.Begin.{refuse, beginVerdict, effective, firstVars, first
 use Rattle.begin.specs.declared.Verdict.{Verdict}
 use Rattle.begin.specs.declared.Verdict.the-variants.{Done, Refused}
 use Rattle.runner.specs.declared.Runner.{Runner}
-use Rattle.runner.specs.State.{headerIn, isRunning, isEnded, Ending, endingIn, resting, dropped}
+use Rattle.runner.specs.State.{headerIn, isRunning, isEnded, Ending, endingIn, idle, dropped}
 use Rattle.runner.specs.Step.{run}
 
 -- "The calls are all that take the runner: load, begin, advance, answer, abandon and write back."
@@ -64,7 +63,7 @@ roomVerdict (written.Refused x) = Refused x
 -- under way (advance, abandon)." "24: no ended run (answer)."
 unfoldable pub check : Call → Runner → Verdict
 check (load file) r = cond (isRunning r) (refuse 22) (fileVerdict (checkFile file))
-check (begin mode inputs allowed limit) r = beginVerdict (headerIn r) (r .state) mode (length inputs) allowed limit
+check (begin mode inputs allowed limit) r = beginVerdict (headerIn r) (isRunning r) mode (length inputs) allowed limit
 check (advance m) r = cond (isRunning r) Done (refuse 23)
 check answer r = cond (isEnded r) Done (refuse 24)
 check abandon r = cond (isRunning r) Done (refuse 23)
@@ -72,7 +71,7 @@ check (writeBack buffer) r = roomVerdict (writing.writeBack (headerIn r) (length
 
 -- The reply of a call that is not refused.
 unfoldable pub says : Call → Runner → Reply
-says (load file) r = chart (at file 5) (at file 6)
+says (load file) r = chart (headerOf file .inputs) (headerOf file .boxes)
 says (begin mode inputs allowed limit) r = done
 says (advance m) r = cond (isRunning (run m r)) (running (run m r .steps)) (ended (run m r .count))
 says answer r = ending (endingIn r) (r .count)
@@ -106,7 +105,7 @@ started r mode inputs allowed limit =
 -- The runner after a call that is not refused. Load: "The chart replaces the old one; an ended run is forgotten." Answer: "It changes
 -- nothing." Abandon "drops the run under way; the chart stays".
 unfoldable pub after : Call → Runner → Runner
-after (load file) r = resting (headerOf file) (tableOf file) 0 0 0
+after (load file) r = idle (headerOf file) (tableOf file)
 after (begin mode inputs allowed limit) r = started r mode inputs allowed (effective limit)
 after (advance m) r = run m r
 after answer r = r

@@ -1,4 +1,4 @@
--- The runner, in document 01's order: what it holds, one step and the ending, the six calls, and how the code's answers are told.
+-- The runner, from the bottom up: what it holds, one step and the ending, the six calls, and how the code's answers are told.
 pub mod State
 pub mod Step
 pub mod Calls

@@ -41,19 +41,23 @@ valueIn spent = 0
 abbrev pub endingIn : Runner → Ending
 endingIn r = cond (eqb (r .state) 2) (valued (r .value)) (cond (eqb (r .state) 3) notice spent)
 
--- A runner that has no run under way: "the variables, their marks and the counter mark become 0", and so does every other
--- number of the run. The last three are the state and, of an ended run, its steps and value.
+-- A runner that has no run under way: "the variables, their marks and the counter mark become 0", and so does every other number of the run. The
+-- last three are the state and, of an ended run, its steps and value.
 abbrev pub resting : Header → List ℕ → (state count value : ℕ) → Runner
 resting h table state count value =
     record { table = table; vars = replicate 32 0; marks = replicate 32 0; counter = 0; inputs = h .inputs; boxes = h .boxes; first = h .first; mode = 0; at = 0; limit = 0; steps = 0; state = state; count = count; value = value }
 
+-- A runner with a chart and nothing else.
+abbrev pub idle : Header → List ℕ → Runner
+idle h table = resting h table 0 0 0
+
 -- "A new runner holds no chart: its box table is 2,040 zero bytes."
 unfoldable pub newRunner : Runner
-newRunner = resting (record { inputs = 0; boxes = 0; first = 0 }) (replicate 2040 0) 0 0 0
+newRunner = idle (record { inputs = 0; boxes = 0; first = 0 }) (replicate 2040 0)
 
 -- "When a run ends or is dropped": the chart stays, with the ending or without.
 unfoldable pub endedWith : Ending → ℕ → Runner → Runner
 endedWith e steps r = resting (headerIn r) (r .table) (stateOf e) steps (valueIn e)
 
 unfoldable pub dropped : Runner → Runner
-dropped r = resting (headerIn r) (r .table) 0 0 0
+dropped r = idle (headerIn r) (r .table)

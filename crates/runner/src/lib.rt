@@ -117,7 +117,7 @@ impl Runner {
     }
 
     // The chart of a file replaces the one held.
-    pub fn load(self, file: &[u8]) -> Loaded
+    pub fn load(mut self, file: &[u8]) -> Loaded
         ensures { λ r. ⌜ outcome (loadReply (r .told)) [] (r .runner) ≡ call (load (now (file .entry))) self ⌝ }
     {
         if self.state == 1 {
@@ -127,27 +127,17 @@ impl Runner {
         let checked = format::check_file(file);
         match checked {
             Checked::Accepted(header) => {
-                let inputs = header.inputs;
-                let boxes = header.boxes;
-                Loaded {
-                    told: LoadTold::Chart { inputs, boxes },
-                    runner: Runner {
-                        table: chart::table_of(file),
-                        vars: [0; 32],
-                        marks: [0; 32],
-                        counter: 0,
-                        inputs,
-                        boxes,
-                        first: header.first,
-                        mode: 0,
-                        at: 0,
-                        limit: 0,
-                        steps: 0,
-                        state: 0,
-                        count: 0,
-                        value: 0,
-                    },
-                }
+                let table = chart::table_of(file);
+                self.table = table;
+                self.inputs = header.inputs;
+                self.boxes = header.boxes;
+                self.first = header.first;
+                let told = LoadTold::Chart {
+                    inputs: header.inputs,
+                    boxes: header.boxes,
+                };
+                let runner = self.rest(0, 0, 0);
+                Loaded { told, runner }
             }
             Checked::Refused(refusal) => Loaded {
                 told: LoadTold::Refused(refusal),
@@ -165,7 +155,7 @@ impl Runner {
             boxes: self.boxes,
             first: self.first,
         };
-        let told = begin::check(header, self.state, mode, inputs.len(), allowed, limit);
+        let told = begin::check(header, self.state == 1, mode, inputs.len(), allowed, limit);
         match told {
             Verdict::Done => {
                 let vars = begin::first_vars(inputs);

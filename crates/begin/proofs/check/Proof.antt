@@ -6,7 +6,7 @@ use native.Mathlib.Omega.{arith}
 use borrow.Author.Tests.{not-true, not-false}
 use borrow.Author.Needs.{needs}
 use Rattle.format.specs.File.{inRange}
-use Rattle.begin.proofs.Begins.{few-inputs}
+use Rattle.format.proofs.Ranges.{in-range}
 use Rattle.begin.proofs.Refusals.{Past, tells-held, tells-state, tells-mode, tells-count, tells-allowed, tells-limit, tells-done}
 use Rattle.begin.proofs.check.Statement.{statement}
 use Rattle.begin.proofs.check.Tie as tie
@@ -14,7 +14,7 @@ use Rattle.begin.proofs.check.Tie as tie
 held : (c : tie.Else1) → inRange (c .before .before .args .header) ≡ true
 held c = sym (c .before .in-range .ensures) ∙ not-false _ (c .if1 .left)
 
-past : (c : tie.Else3) → Past (c .before .before .before .before .args .header) (c .before .before .before .before .args .state) (c .before .before .before .before .args .mode)
+past : (c : tie.Else3) → Past (c .before .before .before .before .args .header) (c .before .before .before .before .args .running) (c .before .before .before .before .args .mode)
 past c = record { held = held (c .before .before); resting = c .before .if2 .left; known = c .if3 .left }
 
 lent : (c : tie.Else4) → c .before .before .before .before .before .before .args .count ≡ c .before .before .before .before .before .before .args .header .inputs
@@ -54,7 +54,7 @@ cast-if5 : tie.Need-cast-if5
 cast-if5 c = search needs
 
 shr-if5 : tie.Need-shr-if5
-shr-if5 c = omega (arith, few-inputs (c .before .before .before .before .before .before .args .header) (past (c .before .before) .held))
+shr-if5 c = omega (arith, in-range (c .before .before .before .before .before .before .args .header) (past (c .before .before) .held) .few)
 
 refuse-requires-5 : tie.Need-refuse-requires-5
 refuse-requires-5 c κs = search needs

@@ -8,7 +8,8 @@ use borrow.Author.Tests.{not-true, not-false}
 use Rattle.format.specs.File.{inRange}
 use Rattle.chart.specs.WriteBack.{bufferAfter}
 use Rattle.chart.specs.declared.Written.the-variants.{Length}
-use Rattle.chart.proofs.Writes.{tells-none, tells-short, tells-file, leaves-buffer, few-boxes}
+use Rattle.format.proofs.Ranges.{in-range}
+use Rattle.chart.proofs.Writes.{tells-none, tells-short, tells-file, leaves-buffer}
 use borrow.Author.Needs.{needs}
 use Rattle.chart.proofs.write_back.Statement.{statement}
 use Rattle.chart.proofs.write_back.Tie as tie
@@ -51,7 +52,7 @@ returns-2 c =
 write-file-requires : tie.Need-write-file-requires
 write-file-requires c κs =
     let n = c .before .before .before .blocks-for .ensures .0 in
-    let few = few-boxes (c .before .before .before .before .before .before .before .args .header) (held (c .before .before .before .before)) in
+    let few = in-range (c .before .before .before .before .before .before .before .args .header) (held (c .before .before .before .before)) .fits in
     (search needs, n, omega (arith, few, n), omega arith)
 
 same-length : tie.Need-same-length

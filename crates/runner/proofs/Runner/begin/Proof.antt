@@ -20,8 +20,8 @@ first-marks-requires c κs = search needs
 
 cast-self : tie.Need-cast-self
 cast-self c =
-    let a = c .before .before .before .before .before .before .args in
-    let p = permitted _ (a .self .state) (a .mode) _ (a .allowed) (a .limit) (sym (c .before .before .before .before .check .ensures) ∙ c .before .before .enum-told .given .1) in
+    let a = c .before .before .before .before .before .before .before .args in
+    let p = permitted _ _ (a .mode) _ (a .allowed) (a .limit) (sym (c .before .before .before .before .check .ensures) ∙ c .before .before .enum-told .given .1) in
     let known = p .known in
     search needs
 
@@ -30,8 +30,8 @@ effective-requires c κs = search needs
 
 cast-self-2 : tie.Need-cast-self-2
 cast-self-2 c =
-    let a = c .before .before .before .before .before .before .before .args in
-    let p = permitted _ (a .self .state) (a .mode) _ (a .allowed) (a .limit) (sym (c .before .before .before .before .before .check .ensures) ∙ c .before .before .before .enum-told .given .1) in
+    let a = c .before .before .before .before .before .before .before .before .args in
+    let p = permitted _ _ (a .mode) _ (a .allowed) (a .limit) (sym (c .before .before .before .before .before .check .ensures) ∙ c .before .before .before .enum-told .given .1) in
     let fits = effective-fits _ (p .fits) in
     let is = c .effective .ensures in
     search needs
@@ -44,7 +44,7 @@ returns c = begin-starts _ _ _ _ _ _ _ _ (sym (c .before .before .before .before
 
 returns-2 : tie.Need-returns-2
 returns-2 c =
-    let a = c .before .before .before .before .args in
+    let a = c .before .before .before .before .before .args in
     begin-refuses _ _ _ _ (a .self) (c .before .before .check .result) _ (c .before .before .check .ensures) (c .enum-told2 .given .1)
 
 pub begin-spec : {M : Type 1} → statement M
