@@ -12,7 +12,7 @@ use lib.Seq.{take-at, drop-at}
 use borrow.Rule.Slice.PartMut.{putMid}
 use Rattle.boxes.specs.Bytes.{part}
 use Rattle.chart.specs.Chart.{joined}
-use Rattle.chart.proofs.Lists.{put-front}
+use Rattle.lists.proofs.Stores.{put-front}
 
 -- Every piece below a number has one size.
 abbrev pub Sized : (ℕ → List ℕ) → ℕ → ℕ → Type 0

@@ -1,14 +1,14 @@
--- Laws on lists: the length of a part, a part of a part, zeros dropped, a copy, a part that was lent and came back.
--- length-part, part-part; drop-replicate, part-zeros; copied; put-front. Assumes nothing.
+-- Laws on lists: the length of a part, a part of a part, zeros past a list.
+-- length-part, part-part; part-zeros. Assumes nothing.
 use Prim.Native.Nat.{ℕ, zero, suc, _+_, _-_, _≤_}
 use mathlib.Core.Path.{_≡_, refl, ap, sym, _∙_}
 use mathlib.Core.Bool.{true}
-use mathlib.Core.List.{List, [], _∷_, _++_, append-assoc, append-nil}
+use mathlib.Core.List.{List, [], _∷_, _++_}
 use native.Mathlib.Nat.{sub-zero, zero-sub, suc-sub-suc}
 use native.Mathlib.Omega.{arith}
-use lib.ListN.{length, take, drop, replicate, length-take, length-drop, drop-of-length-le}
-use lib.Seq.{take-length, take-nil, take-at, drop-at, take-all, take-take, drop-drop, drop-append-add}
-use borrow.Rule.Slice.PartMut.{putMid}
+use lib.ListN.{length, take, drop, replicate, length-take, length-drop}
+use lib.Seq.{take-nil, take-take, drop-drop, drop-append-add}
+use Rattle.lists.proofs.Parts.{drop-replicate}
 use Rattle.boxes.specs.Bytes.{part, allZero}
 
 pub length-part : (f : List ℕ) (a size : ℕ) → a + size ≤ length f → length (part f a size) ≡ size
@@ -25,11 +25,6 @@ part-part f a n b m h =
     let fits : m ≤ n - b = omega arith in
     ap (take m) (drop-take b n (drop a f)) ∙ take-take m (n - b) (drop b (drop a f)) fits ∙ ap (take m) (drop-drop b a f)
 
-pub drop-replicate : (k n v : ℕ) → drop k (replicate n v) ≡ replicate (n - k) v
-drop-replicate zero n v = ap (λ (m : ℕ). replicate m v) (sym (sub-zero n))
-drop-replicate (suc k) zero v = ap (λ (m : ℕ). replicate m v) (sym (zero-sub (suc k)))
-drop-replicate (suc k) (suc n) v = drop-replicate k n v ∙ ap (λ (m : ℕ). replicate m v) (sym (suc-sub-suc n k))
-
 zeros : (m n : ℕ) → allZero (take m (replicate n 0)) ≡ true
 unfolding allZero
 zeros zero n = refl
@@ -43,13 +38,3 @@ part-zeros p n a m h =
     ap (λ (x : ℕ). allZero (part (p ++ replicate n 0) x m)) past
     ∙ ap (λ (l : List ℕ). allZero (take m l)) (drop-append-add p (replicate n 0) (a - length p) ∙ drop-replicate (a - length p) n 0)
     ∙ zeros m (n - (a - length p))
-
--- What the copy of s to the front of d leaves.
-pub copied : (s d e : List ℕ) (n : ℕ) → e ≡ take (length s) s ++ drop (length s) d → length s ≡ n → e ≡ s ++ drop n d
-copied s d e n q h = q ∙ rw (take-length s, h)
-
--- The rest r of a list, lent from a on as far as the list goes, came back with s at its front.
-pub put-front : (p r s : List ℕ) (a k : ℕ) → length p ≡ a → length r ≤ k
-    → putMid a k (p ++ r) (s ++ drop (length s) (take k (drop a (p ++ r)))) ≡ (p ++ s) ++ drop (length s) r
-put-front p r s a k h l =
-    rw (take-at p r a h, drop-at p r a h, take-all k r l, drop-of-length-le r l, append-nil, append-assoc)

@@ -7,7 +7,8 @@ use borrow.Author.Needs.{needs}
 use lib.ListN.{replicate}
 use Rattle.begin.specs.Begin.{withheldMarks}
 use Rattle.begin.proofs.Begins.{length-withheld}
-use Rattle.begin.proofs.Fill.{fill, marks-next, marks-filled}
+use Rattle.lists.proofs.Stores.{fill}
+use Rattle.begin.proofs.Fill.{marks-next, marks-filled}
 use Rattle.begin.proofs.first_marks.Statement.{statement}
 use Rattle.begin.proofs.first_marks.Tie as tie
 
@@ -43,7 +44,7 @@ loop-again : tie.Need-loop-again Inv-loop μ-loop
 loop-again c =
     let a = c .before .before .before .before .before .args .allowed in
     let l = c .before .before .loop in
-    (search needs, fill (withheldMarks a (l .j)) _ _ (l .j) _ (length-withheld a (l .j)) (omega arith) (marks-next a (l .j) _ (c .withheld-mark .ensures)) (l .inv .1))
+    (search needs, fill 32 (withheldMarks a (l .j)) _ _ (l .j) _ (length-withheld a (l .j)) (omega arith) (marks-next a (l .j) _ (c .withheld-mark .ensures)) (l .inv .1))
 
 returns : tie.Need-returns Inv-loop μ-loop
 returns c =

@@ -7,7 +7,8 @@ use borrow.Author.Needs.{needs}
 use lib.ListN.{take, replicate}
 use lib.Seq.{length-take-le}
 use denote.Ref.{now}
-use Rattle.begin.proofs.Fill.{fill, vars-next, vars-filled}
+use Rattle.lists.proofs.Stores.{fill}
+use Rattle.begin.proofs.Fill.{vars-next, vars-filled}
 use Rattle.begin.proofs.first_vars.Statement.{statement}
 use Rattle.begin.proofs.first_vars.Tie as tie
 
@@ -45,7 +46,7 @@ loop-again : tie.Need-loop-again Inv-loop μ-loop
 loop-again c =
     let i = now (c .before .before .before .before .before .args .inputs) in
     let l = c .before .before .loop in
-    (search needs, fill (take (l .j) i) _ _ (l .j) _ (length-take-le (l .j) i (omega arith)) (omega arith) (vars-next i (l .j) (omega arith)) (l .inv .1))
+    (search needs, fill 32 (take (l .j) i) _ _ (l .j) _ (length-take-le (l .j) i (omega arith)) (omega arith) (vars-next i (l .j) (omega arith)) (l .inv .1))
 
 returns : tie.Need-returns Inv-loop μ-loop
 returns c =

@@ -9,7 +9,9 @@ use borrow.Rule.Slice.PartMut.{putMid}
 use denote.Ref.{now}
 use Rattle.format.proofs.Places.{part-to}
 use Rattle.chart.specs.Chart.{joined, boxBlocks, boxesOf, tableOf}
-use Rattle.chart.proofs.Lists.{length-part, drop-replicate, copied}
+use Rattle.lists.proofs.Parts.{drop-replicate}
+use Rattle.lists.proofs.Stores.{copied}
+use Rattle.chart.proofs.Lists.{length-part}
 use Rattle.chart.proofs.Joined.{Sized, joined-rest, put-piece}
 use Rattle.chart.proofs.table_of.Statement.{statement}
 use Rattle.chart.proofs.table_of.Tie as tie

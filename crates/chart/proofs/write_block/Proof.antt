@@ -1,6 +1,6 @@
 -- `write_block` copies the body and stores the two bytes of its check after it.
 use denote.Ref.{now}
-use Rattle.chart.proofs.Lists.{copied}
+use Rattle.lists.proofs.Stores.{copied}
 use Rattle.chart.proofs.Blocks.{sealed-part}
 use borrow.Author.Needs.{needs}
 use Rattle.chart.proofs.write_block.Statement.{statement}

@@ -1,0 +1,4 @@
+// The run program.
+fn main() {
+    serve::run();
+}

@@ -1,0 +1,4 @@
+// The run program without its chart file.
+fn main() {
+    serve::run();
+}

@@ -1,0 +1,22 @@
+-- Laws of parts: the first n of a list that is shorter, the first n of what begins with the first n, and zeros dropped. Assumes nothing.
+use Prim.Native.Nat.{ℕ, zero, suc, _-_, min}
+use mathlib.Core.Path.{_≡_, refl, ap, sym, _∙_}
+use mathlib.Core.List.{List, [], _∷_, _++_}
+use native.Mathlib.Nat.{sub-zero, zero-sub, suc-sub-suc}
+use native.Mathlib.Omega.{arith}
+use lib.ListN.{length, take, drop, replicate, length-take}
+use lib.Seq.{take-length, take-take}
+
+pub take-min : (n : ℕ) (l : List ℕ) → take (min n (length l)) l ≡ take n l
+take-min n l =
+    sym (take-take (min n (length l)) n l (omega arith)) ∙ ap (λ (m : ℕ). take m (take n l)) (sym (length-take n l)) ∙ take-length (take n l)
+
+pub take-again : (n : ℕ) (l r : List ℕ) → take n (take n l ++ r) ≡ take n (l ++ r)
+take-again zero l r = refl
+take-again (suc n) [] r = refl
+take-again (suc n) (x ∷ l) r = ap (λ (t : List ℕ). x ∷ t) (take-again n l r)
+
+pub drop-replicate : (k n v : ℕ) → drop k (replicate n v) ≡ replicate (n - k) v
+drop-replicate zero n v = ap (λ (m : ℕ). replicate m v) (sym (sub-zero n))
+drop-replicate (suc k) zero v = ap (λ (m : ℕ). replicate m v) (sym (zero-sub (suc k)))
+drop-replicate (suc k) (suc n) v = drop-replicate k n v ∙ ap (λ (m : ℕ). replicate m v) (sym (suc-sub-suc n k))

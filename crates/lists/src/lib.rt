@@ -1,0 +1,1 @@
+// Laws of lists that several crates cite, in proofs/; there is no code.

@@ -1,0 +1,3 @@
+-- Laws that the proofs of what is printed cite.
+pub mod Responses
+pub mod Lines

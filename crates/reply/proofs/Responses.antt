@@ -1,0 +1,61 @@
+-- What the calls' promises say of the texts: load's reply, and a begin, a run to its end and its answer. Assumes nothing.
+use Prim.Native.Nat.{ℕ}
+use mathlib.Core.Path.{_≡_, refl, ap, sym, _∙_}
+use mathlib.Core.List.{List, []}
+use mathlib.Core.Bool.{Bool, true, false}
+use lib.ListN.{length}
+use borrow.Author.Tests.{eq-eqb, ne-eqb}
+use Rattle.format.specs.declared.Refusal.{Refusal}
+use Rattle.begin.specs.declared.Verdict.{Verdict}
+use Rattle.begin.specs.declared.Verdict.the-variants as verdict
+use Rattle.line.specs.Parsing.{parse}
+use Rattle.line.specs.Printing.{chartText, refusedText, printed, printedLength}
+use Rattle.line.specs.declared.parsing.Numbers.{Numbers}
+use Rattle.runner.specs.Calls.{Outcome, advance, answer, call}
+use Rattle.runner.specs.Replies.{loadReply, verdictReply, advanceReply, answerReply, outcome}
+use Rattle.runner.specs.declared.Runner.{Runner}
+use Rattle.runner.specs.declared.LoadTold.{LoadTold}
+use Rattle.runner.specs.declared.LoadTold.the-variants as load
+use Rattle.runner.specs.declared.AdvanceTold.{AdvanceTold}
+use Rattle.runner.specs.declared.AnswerTold.{AnswerTold}
+use Rattle.reply.specs.Reply.{replyText, accepted, asked, ran, answered, respond}
+
+-- So many bytes were printed on a buffer, which is afterwards as a text leaves it.
+abbrev pub Prints : List ℕ → ℕ → (out after : List ℕ) → Type 0
+Prints text r out after = (r ≡ printedLength text (length out)) × (after ≡ printed text out)
+
+-- The replies of load.
+module _ (file : Outcome) (x : LoadTold) (next : Runner) (e : outcome (loadReply x) [] next ≡ file) (r : ℕ) (out after : List ℕ) where
+  abbrev Greets : Bool → Type 0
+  Greets b = (next ≡ file .next) × ((b ≡ accepted (file .told .reply)) × Prints (replyText (file .told .reply)) r out after)
+
+  pub greets-chart : (k n : ℕ) → x ≡ load.Chart k n → Prints (chartText k n) r out after → Greets true
+  unfolding loadReply replyText accepted
+  greets-chart k n q p = rw (sym e, q) (refl, (refl, p))
+
+  pub greets-refusal : (y : Refusal) → x ≡ load.Refused y → Prints (refusedText (y .number) (y .detail)) r out after → Greets false
+  unfolding loadReply replyText accepted
+  greets-refusal y q p = rw (sym e, q) (refl, (refl, p))
+
+-- The texts of a line.
+module _ (s : Runner) (number : ℕ) (line : List ℕ) (ns : Numbers) (p : ns ≡ parse line) (r : ℕ) (out after : List ℕ) where
+  abbrev Responds : Type 0
+  Responds = Prints (respond s number line) r out after
+
+  pub ill-formed : ns .count ≡ 0 → Prints (refusedText 11 number) r out after → Responds
+  unfolding respond
+  ill-formed z q = rw (sym p, eq-eqb (ns .count) 0 z) q
+
+  module _ (z : ns .count ≡ 0 → ⊥) (x : Verdict) (next : Runner) (e : outcome (verdictReply x) [] next ≡ call (asked ns) s) where
+    pub refuses : (y : Refusal) → x ≡ verdict.Refused y → Prints (refusedText (y .number) (y .detail)) r out after → Responds
+    unfolding respond answered verdictReply replyText accepted
+    refuses y w q = rw (sym p, ne-eqb (ns .count) 0 z, sym e, w) q
+
+    pub runs : x ≡ verdict.Done → (t : AdvanceTold) (last : Runner) → outcome (advanceReply t) [] last ≡ call (advance 65535) next
+        → (told : AnswerTold) → outcome (answerReply told) [] last ≡ call answer last → Prints (replyText (answerReply told)) r out after → Responds
+    unfolding respond answered verdictReply replyText accepted
+    runs w t last f told g q =
+        let end : last ≡ ran next = ap (λ (o : Outcome). o .next) f in
+        let text : answerReply told ≡ call answer (ran next) .told .reply
+        = ap (λ (o : Outcome). o .told .reply) g ∙ ap (λ (y : Runner). call answer y .told .reply) end in
+        rw (sym p, ne-eqb (ns .count) 0 z, sym e, w, sym text) q
