@@ -1,14 +1,14 @@
 -- Laws of allZero: how a loop that goes up looks at the bytes, and what zero bytes are.
--- zeros-more, zeros-stop, zeros-end; zeros-are. Assumes nothing.
+-- zeros-more, zeros-end; zeros-are. Assumes nothing.
 use Prim.Native.Nat.{ℕ, _+_, _≤_, _<_}
 use mathlib.Core.Path.{_≡_, refl, ap, sym, _∙_}
 use mathlib.Core.List.{List, [], _∷_}
-use mathlib.Core.Bool.{true, false, _&&_}
+use mathlib.Core.Bool.{Bool, true, false, _&&_}
 use native.Mathlib.Numerals.{add-one}
 use lib.Dec.{eqb}
 use lib.ListN.{length, getD, drop, replicate, drop-of-length-le}
 use lib.Seq.{drop-cons}
-use borrow.Author.Tests.{eq-eqb, ne-eqb, eqb-true}
+use borrow.Author.Tests.{eqb-true}
 use Rattle.boxes.specs.Bytes.{allZero}
 use Rattle.boxes.proofs.Bools.{and-left, and-right}
 
@@ -17,16 +17,22 @@ zeros-here : (xs : List ℕ) (i : ℕ) → i < length xs → allZero (drop i xs)
 unfolding allZero
 zeros-here xs i h = ap allZero (drop-cons xs i 0 h) ∙ ap (λ (k : ℕ). eqb (getD xs i 0) 0 && allZero (drop k xs)) (sym (add-one i))
 
-module _ (xs : List ℕ) (i : ℕ) where
-  pub zeros-more : i < length xs → getD xs i 0 ≡ 0 → allZero (drop i xs) ≡ allZero xs → allZero (drop (i + 1) xs) ≡ allZero xs
-  zeros-more h z e = sym (rw (eq-eqb (getD xs i 0) 0 z) at (zeros-here xs i h)) ∙ e
+and-assoc : (a b c : Bool) → (a && b && c) ≡ (a && (b && c))
+and-assoc true b c = refl
+and-assoc false b c = refl
 
-  pub zeros-stop : i < length xs → (getD xs i 0 ≡ 0 → ⊥) → allZero (drop i xs) ≡ allZero xs → false ≡ allZero xs
-  zeros-stop h z e = sym (rw (ne-eqb (getD xs i 0) 0 z) at (zeros-here xs i h)) ∙ e
+and-true : (a : Bool) → a ≡ (a && true)
+and-true true = refl
+and-true false = refl
 
-  pub zeros-end : length xs ≤ i → allZero (drop i xs) ≡ allZero xs → true ≡ allZero xs
+module _ (xs : List ℕ) (i : ℕ) (clear : Bool) where
+  pub zeros-more : i < length xs → (clear && allZero (drop i xs)) ≡ allZero xs
+      → (clear && eqb (getD xs i 0) 0 && allZero (drop (i + 1) xs)) ≡ allZero xs
+  zeros-more h e = and-assoc clear (eqb (getD xs i 0) 0) (allZero (drop (i + 1) xs)) ∙ ap (λ (b : Bool). clear && b) (sym (zeros-here xs i h)) ∙ e
+
+  pub zeros-end : length xs ≤ i → (clear && allZero (drop i xs)) ≡ allZero xs → clear ≡ allZero xs
   unfolding allZero
-  zeros-end h e = sym (ap allZero (drop-of-length-le xs h)) ∙ e
+  zeros-end h e = and-true clear ∙ sym (ap (λ (ys : List ℕ). clear && allZero ys) (drop-of-length-le xs h)) ∙ e
 
 -- Bytes that are all 0 are so many zeros.
 pub zeros-are : (xs : List ℕ) → allZero xs ≡ true → xs ≡ replicate (length xs) 0

@@ -8,14 +8,13 @@ ghost use Rattle.boxes.specs.Box.{readable, operandRule, assignmentRule,
 pub fn all_zero(bytes: &[u8]) -> bool
     ensures { λ r. ⌜ r ≡ allZero (now (bytes .entry)) ⌝ }
 {
+    let mut clear = true;
     let mut i: usize = 0;
     while i < bytes.len() {
-        if bytes[i] != 0 {
-            return false;
-        }
+        clear = clear & (bytes[i] == 0);
         i += 1;
     }
-    true
+    clear
 }
 
 fn can_read(k: u8, v: u8) -> bool
@@ -76,5 +75,11 @@ pub fn well_formed(k: u8, n: u8, b: &[u8]) -> bool
     if b.len() != 10 {
         return false;
     }
-    assignment_holds(k, n, b) | decision_holds(k, n, b) | halt_holds(b)
+    if assignment_holds(k, n, b) {
+        return true;
+    }
+    if decision_holds(k, n, b) {
+        return true;
+    }
+    halt_holds(b)
 }

@@ -9,6 +9,7 @@ use crate::pair::Pair;
 use crate::told::CHART;
 use crate::told::DONE;
 use crate::told::ENDED;
+use crate::told::NOTICE;
 use crate::told::REFUSED;
 use crate::told::RUNNING;
 use crate::told::SHOWN;
@@ -53,6 +54,39 @@ fn chart_c(pair: Pair, file: &mut File) -> Pair {
     let p = p.expect(b"chart C, surveillance", SPENT, 4096, 0);
     let p = p.begin(2, &[], 0, 0).advance(4000).advance(4000).answer();
     p.expect(b"chart C, high-water", SPENT, 4096, 0)
+}
+
+// Charts A and B are proved elsewhere. They are here for the notices, which no other fixed case has.
+fn chart_a(pair: Pair, file: &mut File) -> Pair {
+    put_chart(file, 2, 3);
+    put_box(file, 0, [1, 31, 1, 0, 0, 1, 0, 0, 0, 0]);
+    put_box(file, 1, [1, 31, 1, 1, 0, 2, 0, 0, 0, 0]);
+    put_box(file, 2, HALT);
+    files::mend(file);
+    let p = pair.load(front(file, 1024)).begin(1, &[7, 9], 2, 0);
+    let p = p.advance(1).advance(2).answer();
+    let p = p.expect(b"chart A, surveillance", VALUE, 9, 3);
+    let p = p.begin(2, &[7, 9], 2, 0).advance(2).advance(1).answer();
+    p.expect(b"chart A, high-water", NOTICE, 3, 0)
+}
+
+fn chart_b(pair: Pair, file: &mut File) -> Pair {
+    put_chart(file, 1, 4);
+    put_box(file, 0, [2, 0, 0, 0, 16, 1, 2, 0, 0, 0]);
+    put_box(file, 1, [1, 31, 0, 0, 0, 3, 1, 0, 0, 0]);
+    put_box(file, 2, [1, 17, 0, 0, 0, 1, 5, 0, 0, 0]);
+    put_box(file, 3, HALT);
+    files::mend(file);
+    let p = pair.load(front(file, 1024)).begin(1, &[4], 0, 0);
+    let p = p.advance(9)
+        .answer()
+        .expect(b"chart B, surveillance", NOTICE, 1, 0);
+    let p = p.begin(2, &[0], 0, 0).advance(9).answer();
+    let p = p.expect(b"chart B, high-water, 0", NOTICE, 3, 0);
+    let p = p.begin(2, &[4], 0, 0).advance(9).answer();
+    let p = p.expect(b"chart B, high-water, 4", NOTICE, 4, 0);
+    let p = p.begin(0, &[4], 0, 4).advance(9).answer();
+    p.expect(b"chart B, bare, 4", VALUE, 1, 4)
 }
 
 fn inputs_and_boxes(pair: Pair, file: &mut File) -> Pair {
@@ -136,6 +170,7 @@ fn shown(pair: Pair, file: &mut File) -> Pair {
 
 pub fn run(file: &mut File) -> bool {
     let p = chart_c(pair::new(), file);
+    let p = chart_b(chart_a(p, file), file);
     let p = inputs_and_boxes(p, file);
     let p = lengths(p, file);
     let p = limits(p, file);

@@ -8,15 +8,15 @@ use runner::Runner;
 use second::Model;
 use second::Told;
 
-// `ahead` is the model's run under way, advanced at once by its whole limit. `first` and `second` are what the last call told: the
-// runner, and the model. `inputs` and `boxes` are those of the chart held, `mode` that of the last run. `same` becomes false at the first
-// difference, `case` and `calls` say where.
+// `first` and `second` are what the last call told: the runner, and the model. `whole` is the answer of a copy of the model that was advanced
+// at once by the whole limit of the last run. `inputs` and `boxes` are those of the chart held, `mode` that of the last run. `same` becomes
+// false at the first difference; `case` and `calls` say where that is.
 pub struct Pair {
     runner: Runner,
     model: Model,
-    ahead: Model,
     pub first: Told,
     pub second: Told,
+    whole: Told,
     pub inputs: u32,
     pub boxes: u32,
     mode: u32,
@@ -30,9 +30,9 @@ pub fn new() -> Pair {
     Pair {
         runner: Runner::new(),
         model: Model::new(),
-        ahead: Model::new(),
         first: told::make(told::DONE, 0, 0),
         second: told::make(told::DONE, 0, 0),
+        whole: told::make(told::DONE, 0, 0),
         inputs: 0,
         boxes: 0,
         mode: 0,
@@ -153,14 +153,14 @@ impl Pair {
         pair
     }
 
-    // A copy of the model runs its whole limit at once, which ends the run.
+    // A copy of the model, as begin handed it back, is advanced at once by its whole limit, which ends the run.
     fn go_ahead(mut self, mode: u32, limit: u32) -> Pair {
         let most = if limit == 0 { 4096 } else { limit };
         let model = self.model;
         let turn = model.advance(most);
         let ahead = turn.model;
         let t = turn.told;
-        self.ahead = ahead;
+        self.whole = ahead.answer();
         self.mode = mode;
         if t.kind != told::ENDED {
             return self.differ(b"the limit at once", told::make(told::ENDED, most, 0), t);
@@ -206,17 +206,16 @@ impl Pair {
         }
     }
 
-    // The answer does not depend on the cuts: it is also that of the run ahead.
+    // The answer does not depend on the cuts: it is also that of the whole limit at once.
     pub fn answer(self) -> Pair {
         let runner = self.runner;
         let model = self.model;
-        let ahead = self.ahead;
+        let whole = self.whole;
         let first = told::of_answer(runner.answer());
         let pair = self.settle(b"answer", first, model.answer());
         if first.kind == told::REFUSED {
             return pair;
         }
-        let whole = ahead.answer();
         if !told::same(first, whole) {
             return pair.differ(b"answer after the limit at once", first, whole);
         }

@@ -1,7 +1,7 @@
--- What the box at hand does, by its kind and what the code computed of it, and how an advance ends or goes on after it. Assumes nothing.
+-- What the box at hand does, by its kind and what the code computed of it, and how a run ends or goes on after it. Assumes nothing.
 use Prim.Native.Nat.{ℕ, _+_, _-_, _%_, _<_, _≤_}
 use mathlib.Core.Path.{_≡_, refl, ap, sym, _∙_, subst}
-use mathlib.Core.List.{List, [], map}
+use mathlib.Core.List.{List, map}
 use mathlib.Core.Bool.{Bool, true, false, cond}
 use lib.Bits.{bitOr}
 use lib.ListN.{getD, set}
@@ -14,15 +14,11 @@ use Rattle.rules.specs.declared.decode.FlowBox.{FlowBox}
 use Rattle.rules.specs.declared.decode.FlowBox.the-variants.{Assign, Decide, Halt}
 use Rattle.rules.proofs.ReadLaws.{read-map}
 use Rattle.runner.specs.declared.Runner.{Runner}
-use Rattle.runner.specs.declared.AdvanceTold.{AdvanceTold}
 use Rattle.runner.specs.declared.AdvanceTold.the-variants as advance
 use Rattle.runner.specs.State.{headerIn, isRunning, Ending, valued, notice, spent, stateOf, valueIn, resting, endedWith}
 use Rattle.runner.specs.Step.{entry, act, moved, goesOn, settle, boxRun, run}
-use Rattle.runner.specs.Calls.{call}
 use Rattle.runner.specs.Calls as calls
-use Rattle.runner.specs.Replies.{advanceReply, outcome}
 use Rattle.runner.proofs.Runs.{still, step-is, run-one, run-none}
-use Rattle.runner.proofs.Outcomes.{advance-runs, advance-ends}
 
 -- The box at hand, of a runner in a mode.
 module _ (r : Runner) (mode : ℕ) (b : FlowBox) (em : r .mode ≡ mode) (eb : b ≡ boxAt (r .table) (r .at)) where
@@ -95,8 +91,8 @@ module _ (r q : Runner) (l : Left r q) where
   unfolding goesOn
   counted-left h = l .goes ∙ rw (lt-leb _ _ h) (l .counted)
 
--- An advance of m boxes from r₀ that stands at r with n to go.
-module _ (m n : ℕ) (r₀ r : Runner) (s₀ : r₀ .state ≡ 1) (t : run m r₀ ≡ run n r) (s : r .state ≡ 1) where
+-- A run of m boxes from r₀ that stands at r with n to go.
+module _ (m n : ℕ) (r₀ r : Runner) (t : run m r₀ ≡ run n r) (s : r .state ≡ 1) where
   -- the turn of the loop
   pub turned : (q : Runner) → 0 < n → boxRun r ≡ q → run m r₀ ≡ run (n - 1) q
   turned q h d =
@@ -110,17 +106,15 @@ module _ (m n : ℕ) (r₀ r : Runner) (s₀ : r₀ .state ≡ 1) (t : run m r�
   over spent count x = refl
 
   -- the box at hand ends the run
-  pub finished : (e : Ending) (count : ℕ) (q next : Runner) (told : AdvanceTold) → 0 < n → boxRun r ≡ endedWith e count r → headerIn q ≡ headerIn r → q .table ≡ r .table
-      → told ≡ advance.Ended count → next ≡ resting (headerIn q) (q .table) (stateOf e) count (valueIn e)
-      → outcome (advanceReply told) [] next ≡ call (calls.advance m) r₀
+  pub finished : (e : Ending) (count : ℕ) (q next : Runner) → 0 < n → boxRun r ≡ endedWith e count r → headerIn q ≡ headerIn r → q .table ≡ r .table
+      → next ≡ resting (headerIn q) (q .table) (stateOf e) count (valueIn e) → next ≡ run m r₀
   unfolding endedWith
-  finished e count q next told h d eh et em en =
-      let end : run m r₀ ≡ endedWith e count r = turned (endedWith e count r) h d ∙ still (n - 1) (endedWith e count r) (over e count r) in
-      let same : next ≡ endedWith e count r = en ∙ ap (λ (x : Header). resting x (q .table) (stateOf e) count (valueIn e)) eh ∙ ap (λ (x : List ℕ). resting (headerIn r) x (stateOf e) count (valueIn e)) et in
-      ap (λ (x : AdvanceTold). outcome (advanceReply x) [] next) em
-      ∙ ap (outcome (advanceReply (advance.Ended count)) []) same
-      ∙ advance-ends m r₀ (endedWith e count r) s₀ end (over e count r)
+  finished e count q next h d eh et en =
+      en
+      ∙ ap (λ (x : Header). resting x (q .table) (stateOf e) count (valueIn e)) eh
+      ∙ ap (λ (x : List ℕ). resting (headerIn r) x (stateOf e) count (valueIn e)) et
+      ∙ sym (turned (endedWith e count r) h d ∙ still (n - 1) (endedWith e count r) (over e count r))
 
   -- all boxes asked for were run
-  pub advanced : n ≤ 0 → outcome (advanceReply (advance.Running (r .steps))) [] r ≡ call (calls.advance m) r₀
-  advanced h = advance-runs m r₀ r s₀ (t ∙ run-none n r h) s
+  pub all-run : n ≤ 0 → r ≡ run m r₀
+  all-run h = sym (t ∙ run-none n r h)

@@ -10,6 +10,7 @@ ghost use mathlib.Core.Bool.{cond};
 ghost use mathlib.Core.List.{[]};
 ghost use Rattle.format.specs.File.{refusal};
 ghost use Rattle.runner.specs.State.{newRunner, resting, headerIn};
+ghost use Rattle.runner.specs.Step.{run};
 ghost use Rattle.runner.specs.Calls.{load, begin, advance, answer, abandon, writeBack, call};
 ghost use Rattle.runner.specs.Replies.{loadReply, verdictReply, advanceReply, answerReply, writtenReply, outcome};
 
@@ -170,34 +171,22 @@ impl Runner {
                 self.state = 1;
                 self.count = 0;
                 self.value = 0;
-                Changed {
+                return Changed {
                     told: Verdict::Done,
                     runner: self,
-                }
+                };
             }
-            Verdict::Refused(_) => Changed { told, runner: self },
+            Verdict::Refused(_) => {
+                return Changed { told, runner: self };
+            }
         }
     }
 
-    // The run has ended: the end is told, and the chart stays.
-    fn finish(self, state: u8, count: u32, value: u32) -> Advanced
-        ensures { λ r. ⌜ (r .told ≡ AdvanceTold.Ended count) × (r .runner ≡ resting (headerIn self) (self .table) state count value) ⌝ }
+    // Runs m boxes of a run under way, or fewer if it ends.
+    fn run(mut self, m: u32) -> Runner
+        requires { ⌜ self .state ≡ 1 ⌝ }
+        ensures { λ r. ⌜ r ≡ run m self ⌝ }
     {
-        let runner = self.rest(state, count, value);
-        Advanced {
-            told: AdvanceTold::Ended(count),
-            runner,
-        }
-    }
-
-    // Runs m boxes, or fewer if the run ends.
-    pub fn advance(mut self, m: u32) -> Advanced
-        ensures { λ r. ⌜ outcome (advanceReply (r .told)) [] (r .runner) ≡ call (advance m) self ⌝ }
-    {
-        if self.state != 1 {
-            let told = AdvanceTold::Refused(refusal(23));
-            return Advanced { told, runner: self };
-        }
         let limit = self.limit as u32;
         let mode = self.mode;
         let mut todo = m;
@@ -236,7 +225,7 @@ impl Runner {
                     let j = (right % 32) as usize;
                     let read = self.marks[i] | self.marks[j];
                     if rules::marks::decision_notices(mode, read) {
-                        return self.finish(3, count, 0);
+                        return self.rest(3, count, 0);
                     }
                     self.counter = rules::marks::counter_mark(mode, self.counter, read);
                     let holds = rules::ops::compare(comparison, self.vars[i], self.vars[j]);
@@ -244,21 +233,35 @@ impl Runner {
                 }
                 FlowBox::Halt => {
                     if rules::marks::halt_notices(mode, self.counter, self.marks[31]) {
-                        return self.finish(3, count, 0);
+                        return self.rest(3, count, 0);
                     }
                     let value = self.vars[31];
-                    return self.finish(2, count, value);
+                    return self.rest(2, count, value);
                 }
             }
             if limit <= count {
-                return self.finish(4, count, 0);
+                return self.rest(4, count, 0);
             }
             self.steps = count as u16;
         }
-        Advanced {
-            told: AdvanceTold::Running(self.steps as u32),
-            runner: self,
+        self
+    }
+
+    // Runs m boxes, or fewer if the run ends, and tells which.
+    pub fn advance(self, m: u32) -> Advanced
+        ensures { λ r. ⌜ outcome (advanceReply (r .told)) [] (r .runner) ≡ call (advance m) self ⌝ }
+    {
+        if self.state != 1 {
+            let told = AdvanceTold::Refused(refusal(23));
+            return Advanced { told, runner: self };
         }
+        let runner = self.run(m);
+        if runner.state == 1 {
+            let told = AdvanceTold::Running(runner.steps as u32);
+            return Advanced { told, runner };
+        }
+        let told = AdvanceTold::Ended(runner.count);
+        Advanced { told, runner }
     }
 
     // Drops the run under way.

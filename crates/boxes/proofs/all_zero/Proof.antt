@@ -1,28 +1,26 @@
--- `all_zero` goes up the bytes: what is left to look at has only zeros exactly where all bytes have.
+-- `all_zero` goes up the bytes: those before i are all 0 and so are those from i on, exactly where all bytes are.
 use Prim.Native.Nat.{_≤_, _-_}
-use mathlib.Core.Path.{_≡_}
+use mathlib.Core.Path.{_≡_, refl}
+use mathlib.Core.Bool.{_&&_}
 use borrow.Author.Needs.{needs}
 use lib.ListN.{length, drop}
 use denote.Ref.{now}
 use Rattle.boxes.specs.Bytes.{allZero}
-use Rattle.boxes.proofs.Zeros.{zeros-more, zeros-stop, zeros-end}
+use Rattle.boxes.proofs.Zeros.{zeros-more, zeros-end}
 use Rattle.boxes.proofs.all_zero.Statement.{statement}
 use Rattle.boxes.proofs.all_zero.Tie as tie
 
 abbrev Inv-loop : tie.InvT-loop
-Inv-loop bytes i₀ i = (i ≤ length bytes) × (allZero (drop i bytes) ≡ allZero bytes)
+Inv-loop bytes clear₀ i₀ clear i = (i ≤ length bytes) × ((clear && allZero (drop i bytes)) ≡ allZero bytes)
 
 abbrev μ-loop : tie.MeasureT-loop
-μ-loop bytes i₀ i = length bytes - i
+μ-loop bytes clear₀ i₀ clear i = length bytes - i
 
 loop-holds : tie.Need-loop-holds Inv-loop μ-loop
-loop-holds c = search needs
+loop-holds c = (search needs, refl)
 
-shared-slice-read-if1 : tie.Need-shared-slice-read-if1 Inv-loop μ-loop
-shared-slice-read-if1 c = search needs
-
-returns : tie.Need-returns Inv-loop μ-loop
-returns c = zeros-stop _ _ (search needs) (c .if1 .taken) (c .before .before .before .loop .inv .1)
+shared-slice-read-clear : tie.Need-shared-slice-read-clear Inv-loop μ-loop
+shared-slice-read-clear c = search needs
 
 add-i : tie.Need-add-i Inv-loop μ-loop
 add-i c = search needs
@@ -31,10 +29,10 @@ loop-less : tie.Need-loop-less Inv-loop μ-loop
 loop-less c = search needs
 
 loop-again : tie.Need-loop-again Inv-loop μ-loop
-loop-again c = (search needs, zeros-more _ _ (search needs) (c .if1 .left) (c .before .before .before .loop .inv .1))
+loop-again c = (search needs, zeros-more (now (c .before .before .before .args .bytes)) (c .before .before .loop .i) (c .before .before .loop .clear) (c .before .loop-test .taken) (c .before .before .loop .inv .1))
 
-returns-2 : tie.Need-returns-2 Inv-loop μ-loop
-returns-2 c = zeros-end (now (c .before .before .args .bytes)) (c .before .loop .i) (search needs) (c .before .loop .inv .1)
+returns : tie.Need-returns Inv-loop μ-loop
+returns c = zeros-end (now (c .before .before .args .bytes)) (c .before .loop .i) (c .before .loop .clear) (c .loop-test .left) (c .before .loop .inv .1)
 
 pub all-zero-spec : {M : Type 1} → statement M
 all-zero-spec =
@@ -43,9 +41,8 @@ all-zero-spec =
     Inv-loop
     μ-loop
     loop-holds
-    shared-slice-read-if1
-    returns
+    shared-slice-read-clear
     add-i
     loop-less
     loop-again
-    returns-2)
+    returns)

@@ -1,7 +1,8 @@
 -- `well_formed` is the rule, kind by kind.
+use mathlib.Core.Path.{sym, _∙_}
+use borrow.Author.Needs.{needs}
 use borrow.Author.Tests.{eq-eqb, ne-eqb}
 use Rattle.boxes.specs.Box.{wellFormed}
-use borrow.Author.Needs.{needs}
 use Rattle.boxes.proofs.well_formed.Statement.{statement}
 use Rattle.boxes.proofs.well_formed.Tie as tie
 
@@ -12,15 +13,25 @@ returns c = rw (ne-eqb _ _ (c .if1 .taken))
 assignment-holds-requires : tie.Need-assignment-holds-requires
 assignment-holds-requires c κs = search needs
 
+returns-2 : tie.Need-returns-2
+unfolding wellFormed
+returns-2 c = rw (eq-eqb _ _ (c .before .before .if1 .left), sym (c .before .assignment-holds .ensures) ∙ c .if2 .taken)
+
 decision-holds-requires : tie.Need-decision-holds-requires
 decision-holds-requires c κs = search needs
+
+returns-3 : tie.Need-returns-3
+unfolding wellFormed
+returns-3 c =
+    rw (eq-eqb _ _ (c .before .before .before .before .if1 .left), sym (c .before .before .before .assignment-holds .ensures) ∙ c .before .before .if2 .left, sym (c .before .decision-holds .ensures) ∙ c .if3 .taken)
 
 halt-holds-requires : tie.Need-halt-holds-requires
 halt-holds-requires c κs = search needs
 
-returns-2 : tie.Need-returns-2
+returns-4 : tie.Need-returns-4
 unfolding wellFormed
-returns-2 c = rw (eq-eqb _ _ (c .before .before .before .if1 .left), c .halt-holds .ensures, c .before .decision-holds .ensures, c .before .before .assignment-holds .ensures)
+returns-4 c =
+    rw (eq-eqb _ _ (c .before .before .before .before .before .if1 .left), sym (c .before .before .before .before .assignment-holds .ensures) ∙ c .before .before .before .if2 .left, sym (c .before .before .decision-holds .ensures) ∙ c .before .if3 .left) (c .halt-holds .ensures)
 
 pub well-formed-spec : {M : Type 1} → statement M
 well-formed-spec =
@@ -28,6 +39,8 @@ well-formed-spec =
     (tie.spec
     returns
     assignment-holds-requires
+    returns-2
     decision-holds-requires
+    returns-3
     halt-holds-requires
-    returns-2)
+    returns-4)

@@ -58,6 +58,6 @@ begin-spec =
     cast-self
     effective-requires
     cast-self-2
-    enum-told-2
     returns
+    enum-told-2
     returns-2)

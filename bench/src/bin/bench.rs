@@ -1,0 +1,150 @@
+//! Times the proved library beside plain Rust in one process: alternating rounds, medians, and the same answers from all sides.
+//!
+//! `bench`: the table of ratios. `bench work NAME SIDE ROUNDS`: one side of one row, so often and untimed, for counting instructions; `bench names`: the
+//! rows.
+use bench::{charts, exported, rounds};
+use std::hint::black_box;
+use std::time::Instant;
+
+type Side = Box<dyn Fn(u32) -> u64>;
+
+/// One measured row: the sides, how many rounds one sample has, and how many units (boxes, calls) one round has.
+struct Row {
+    name: String,
+    unit: &'static str,
+    units: f64,
+    rounds: u32,
+    ours: Side,
+    plain: Side,
+    by_value: Option<Side>,
+}
+
+fn checks(name: String, unit: &'static str, units: f64, count: u32, file: Vec<u8>, mode: u32, limit: u32) -> Row {
+    let k = usize::from(file[5]);
+    let inputs: Vec<u32> = (0..k as u32).map(|j| 7 + j).collect();
+    let allowed = ((1u64 << k) - 1) as u32;
+    let sides = (file.clone(), inputs.clone(), file.clone(), inputs.clone());
+    Row {
+        name,
+        unit,
+        units,
+        rounds: count,
+        ours: Box::new(move |n| exported::checks(&file, mode, &inputs, allowed, limit, n)),
+        plain: Box::new(move |n| rounds::checks(&sides.0, mode, &sides.1, allowed, limit, n)),
+        by_value: Some(Box::new(move |n| rounds::checks_by_value(&sides.2, mode, &sides.3, allowed, limit, n))),
+    }
+}
+
+fn files(name: String, count: u32, boxes: usize) -> Vec<Row> {
+    let one = charts::straight(boxes);
+    let both = [one.clone(), charts::straight(boxes - 1)].concat();
+    let (a, b, c, d, e, f) = (both.clone(), both, one.clone(), one.clone(), one.clone(), one);
+    let row = |call: &str, ours: Side, plain: Side| Row {
+        name: format!("{call} {name}"),
+        unit: "call",
+        units: 1.0,
+        rounds: count,
+        ours,
+        plain,
+        by_value: None,
+    };
+    vec![
+        row(
+            "load",
+            Box::new(move |n| exported::loads(&a, n)),
+            Box::new(move |n| rounds::loads(&b, n)),
+        ),
+        row(
+            "write back",
+            Box::new(move |n| exported::writes(&c, &mut [0; 2560], n)),
+            Box::new(move |n| rounds::writes(&d, &mut [0; 2560], n)),
+        ),
+        row(
+            "show a box of",
+            Box::new(move |n| exported::shows(&e, n)),
+            Box::new(move |n| rounds::shows(&f, n)),
+        ),
+    ]
+}
+
+fn rows() -> Vec<Row> {
+    let mut rows = Vec::new();
+    for (name, chart) in [("counting", charts::counting()), ("operations", charts::operations()), ("decisions", charts::decisions())] {
+        for (mode, mode_name) in ["bare", "surveillance", "high-water"].iter().enumerate() {
+            rows.push(checks(format!("box: {name}, {mode_name}"), "box", 65535.0, 10, chart.clone(), mode as u32, 65535));
+        }
+    }
+    for n in [3, 20, 200] {
+        rows.push(checks(format!("health check of {n} boxes"), "check", 1.0, 400_000 / (20 + n as u32), charts::straight(n), 1, 0));
+    }
+    rows.extend(files("2 blocks".into(), 2000, 51));
+    rows.extend(files("5 blocks".into(), 1000, 204));
+    for steps in [10, 100, 1000, 10_000, 65_535] {
+        rows.push(checks(format!("growth: {steps} boxes"), "box", f64::from(steps), 600_000 / steps, charts::counting(), 1, steps));
+    }
+    rows
+}
+
+fn median(mut times: Vec<f64>) -> f64 {
+    times.sort_by(f64::total_cmp);
+    times[times.len() / 2]
+}
+
+/// The medians of a row's sides, in nanoseconds a unit; every side gives the same sum in every sample.
+fn measure(row: &Row, samples: usize) -> [f64; 3] {
+    let sides: Vec<&Side> = [Some(&row.ours), Some(&row.plain), row.by_value.as_ref()].into_iter().flatten().collect();
+    let mut times = vec![Vec::new(); sides.len()];
+    for sample in 0..=samples {
+        let mut sums = Vec::new();
+        for (side, times) in sides.iter().zip(&mut times) {
+            let start = Instant::now();
+            sums.push(black_box(side(black_box(row.rounds))));
+            if sample > 0 {
+                times.push(start.elapsed().as_nanos() as f64 / f64::from(row.rounds) / row.units);
+            }
+        }
+        assert!(sums.iter().all(|sum| *sum == sums[0]), "{}: the sides differ: {sums:?}", row.name);
+    }
+    let mut medians = [f64::NAN; 3];
+    for (median_of, times) in medians.iter_mut().zip(times) {
+        *median_of = median(times);
+    }
+    medians
+}
+
+fn table() {
+    println!("{:34} {:>6} {:>9} {:>9} {:>9} {:>8} {:>8}", "row", "unit", "ours ns", "&mut ns", "value ns", "/ &mut", "/ value");
+    for row in rows() {
+        let [ours, plain, by_value] = measure(&row, 25);
+        println!(
+            "{:34} {:>6} {:9.2} {:9.2} {:9.2} {:8.2} {:8.2}",
+            row.name,
+            row.unit,
+            ours,
+            plain,
+            by_value,
+            ours / plain,
+            ours / by_value
+        );
+    }
+}
+
+fn work(name: &str, side: &str, count: u32) {
+    let row = rows().into_iter().find(|row| row.name == name).expect("no such row");
+    let side = match side {
+        "ours" => &row.ours,
+        "plain" => &row.plain,
+        _ => row.by_value.as_ref().expect("no such side"),
+    };
+    println!("{}", side(count));
+}
+
+fn main() {
+    let words: Vec<String> = std::env::args().skip(1).collect();
+    match words.iter().map(String::as_str).collect::<Vec<_>>()[..] {
+        [] => table(),
+        ["names"] => rows().iter().for_each(|row| println!("{}", row.name)),
+        ["work", name, side, count] => work(name, side, count.parse().unwrap()),
+        _ => eprintln!("usage: bench | names | work NAME SIDE ROUNDS"),
+    }
+}

@@ -1,0 +1,141 @@
+//! Random and damaged charts and lists of calls through the exported functions and through plain Rust, for so many seconds, to the first difference.
+//!
+//! `differential SECONDS [SEED]`
+use bench::plain::{show_box, Runner};
+use bench::random::Random;
+use bench::rounds::numbers;
+use bench::{charts, exported};
+use std::time::{Duration, Instant};
+
+const STRIDE: usize = 24;
+
+/// A list of calls as numbers, and the files that its loads and shows name.
+struct Script {
+    files: Vec<u8>,
+    words: Vec<[u32; STRIDE]>,
+}
+
+fn call(arguments: &[u32]) -> [u32; STRIDE] {
+    let mut words = [0; STRIDE];
+    words[..arguments.len()].copy_from_slice(arguments);
+    words
+}
+
+fn begin(random: &mut Random, k: u32) -> [u32; STRIDE] {
+    let mode = if random.one_in(20) { random.number() } else { random.below(3) };
+    let count = if random.one_in(20) { random.below(18) } else { k };
+    let allowed = match random.below(20) {
+        0 => random.number(),
+        1 => 1u32.checked_shl(k).unwrap_or(0),
+        _ => (random.word() as u32) & ((1u64 << k) - 1) as u32,
+    };
+    let limit = match random.below(12) {
+        0 => random.number(),
+        1 => 0,
+        2 => 65535,
+        _ => 1 + random.below(300),
+    };
+    let mut words = call(&[1, mode, allowed, limit, count]);
+    for word in &mut words[5..22] {
+        *word = random.number();
+    }
+    words
+}
+
+fn amount(random: &mut Random) -> u32 {
+    match random.below(8) {
+        0 => 0,
+        1 => u32::MAX - random.below(2),
+        2..=4 => random.below(4),
+        5 => 65535,
+        _ => random.below(200),
+    }
+}
+
+fn script(random: &mut Random) -> Script {
+    let mut files = Vec::new();
+    let mut words = Vec::new();
+    for _ in 0..1 + random.below(4) {
+        let mut file = charts::random_chart(random);
+        let k = u32::from(file[5]);
+        if random.one_in(3) {
+            charts::damage(random, &mut file);
+        }
+        let (from, length) = (files.len() as u32, file.len() as u32);
+        files.extend(file);
+        words.push(call(&[0, from, length]));
+        for _ in 0..random.below(40) {
+            words.push(match random.below(12) {
+                0..=2 => begin(random, k),
+                3..=6 => call(&[2, amount(random)]),
+                7..=8 => call(&[3]),
+                9 => call(&[4]),
+                10 => call(&[5, random.below(2600)]),
+                _ => call(&[6, from, length, if random.one_in(2) { random.below(12) } else { random.below(256) }]),
+            });
+        }
+    }
+    Script { files, words }
+}
+
+fn sum_of(bytes: &[u8]) -> u32 {
+    bytes.iter().fold(0, |sum: u32, b| ((sum << 5) ^ (sum >> 3)).wrapping_add(u32::from(*b)))
+}
+
+/// What plain Rust tells for one call.
+fn plain(runner: &mut Runner, files: &[u8], words: &[u32; STRIDE], buf: &mut [u8]) -> [u32; 4] {
+    let file = || &files[words[1] as usize..(words[1] + words[2]) as usize];
+    let (told, sum) = match words[0] {
+        0 => (numbers(runner.load(file())), 0),
+        1 => (numbers(runner.begin(words[1], &words[5..5 + words[4] as usize], words[2], words[3])), 0),
+        2 => (numbers(runner.advance(words[1])), 0),
+        3 => (numbers(runner.answer()), 0),
+        4 => (numbers(runner.abandon()), 0),
+        5 => {
+            let told = numbers(runner.write_back(&mut buf[..words[1] as usize]));
+            (told, sum_of(buf))
+        }
+        _ => {
+            let part = show_box(file(), words[3]);
+            ([9, part.len() as u32, 0], sum_of(part))
+        }
+    };
+    [told[0], told[1], told[2], sum]
+}
+
+fn main() {
+    let words: Vec<String> = std::env::args().skip(1).collect();
+    let seconds: u64 = words.first().map_or(10, |w| w.parse().expect("SECONDS is a number"));
+    let seed: u64 = words.get(1).map_or(1, |w| w.parse().expect("SEED is a number"));
+    let end = Instant::now() + Duration::from_secs(seconds);
+    let mut random = Random::new(seed);
+    let (mut scripts, mut calls) = (0u64, 0u64);
+    let mut kinds = [0u64; 10];
+    while Instant::now() < end {
+        let script = script(&mut random);
+        let flat: Vec<u32> = script.words.iter().flatten().copied().collect();
+        let mut told = vec![0; 4 * script.words.len()];
+        let junk = random.word() as u8;
+        let (mut ours, mut theirs) = ([junk; 2600], [junk; 2600]);
+        let made = exported::script(&script.files, &flat, &mut told, &mut ours);
+        assert_eq!(made, script.words.len());
+        let mut runner = Runner::new();
+        for (i, (words, told)) in script.words.iter().zip(told.chunks(4)).enumerate() {
+            let expected = plain(&mut runner, &script.files, words, &mut theirs);
+            kinds[expected[0] as usize] += 1;
+            if told != expected {
+                println!("seed {seed}, list {scripts}, call {i}: {words:?}");
+                println!("the library told {told:?}, plain Rust {expected:?}");
+                std::process::exit(1);
+            }
+        }
+        assert!(ours == theirs, "seed {seed}, list {scripts}: the buffers differ");
+        scripts += 1;
+        calls += made as u64;
+    }
+    println!("{scripts} lists, {calls} calls, no difference");
+    let names = ["done", "chart", "running", "ended", "value", "notice", "spent", "refused", "written", "shown"];
+    for (name, count) in names.iter().zip(kinds) {
+        println!("{name} {count}");
+    }
+}

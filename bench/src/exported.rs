@@ -1,0 +1,30 @@
+//! The proved library's functions, as `crates/checks`, `crates/rounds` and `crates/script` export them.
+#[allow(improper_ctypes)]
+extern "C" {
+    fn flow_checks(file: &[u8], mode: u32, inputs: &[u32], allowed: u32, limit: u32, rounds: u32) -> u64;
+    fn flow_loads(files: &[u8], rounds: u32) -> u64;
+    fn flow_writes(file: &[u8], buf: &mut [u8], rounds: u32) -> u64;
+    fn flow_shows(file: &[u8], rounds: u32) -> u64;
+    fn flow_script(files: &[u8], words: &[u32], told: &mut [u32], buf: &mut [u8]) -> usize;
+}
+
+pub fn checks(file: &[u8], mode: u32, inputs: &[u32], allowed: u32, limit: u32, rounds: u32) -> u64 {
+    unsafe { flow_checks(file, mode, inputs, allowed, limit, rounds) }
+}
+
+pub fn loads(files: &[u8], rounds: u32) -> u64 {
+    unsafe { flow_loads(files, rounds) }
+}
+
+pub fn writes(file: &[u8], buf: &mut [u8], rounds: u32) -> u64 {
+    unsafe { flow_writes(file, buf, rounds) }
+}
+
+pub fn shows(file: &[u8], rounds: u32) -> u64 {
+    unsafe { flow_shows(file, rounds) }
+}
+
+/// A list of calls, and what each tells, three numbers a call; how many calls were made.
+pub fn script(files: &[u8], words: &[u32], told: &mut [u32], buf: &mut [u8]) -> usize {
+    unsafe { flow_script(files, words, told, buf) }
+}

@@ -1,0 +1,334 @@
+//! Charts by the scope document, in plain Rust: the runner behind `&mut self`, the boxes read out of the same byte table.
+
+/// What a call tells: a refusal is its number and detail.
+#[derive(Clone, Copy, PartialEq, Eq, Debug)]
+pub enum Told {
+    Done,
+    Chart { inputs: u8, boxes: u8 },
+    Running(u32),
+    Ended(u32),
+    Value { value: u32, steps: u32 },
+    Notice(u32),
+    Spent(u32),
+    Written(usize),
+    Refused(u32, u32),
+}
+
+#[derive(Clone, Copy, PartialEq, Eq)]
+pub enum State {
+    Resting,
+    Running,
+    Value,
+    Notice,
+    Spent,
+}
+
+pub struct Runner {
+    table: [u8; 2040],
+    vars: [u32; 32],
+    marks: [u8; 32],
+    counter: u8,
+    inputs: u8,
+    boxes: u8,
+    first: u8,
+    mode: u8,
+    at: u8,
+    limit: u32,
+    steps: u32,
+    value: u32,
+    state: State,
+}
+
+fn check_of(block: &[u8]) -> u32 {
+    block[..510].iter().zip(1u32..).map(|(b, i)| i * u32::from(*b)).sum::<u32>() % 65536
+}
+
+fn is_sealed(block: &[u8]) -> bool {
+    check_of(block) == u32::from(block[510]) + 256 * u32::from(block[511])
+}
+
+fn reads(op: u8) -> (bool, bool) {
+    match op {
+        0 => (false, false),
+        1 | 9 | 10 | 11 => (true, false),
+        _ => (true, true),
+    }
+}
+
+fn readable(v: u8, k: u8) -> bool {
+    v < k || (16..32).contains(&v)
+}
+
+fn is_box(b: &[u8], k: u8, n: u8) -> bool {
+    let operand = |read: bool, v: u8| if read { readable(v, k) } else { v == 0 };
+    match b[0] {
+        1 => {
+            let (left, right) = reads(b[2]);
+            (16..32).contains(&b[1])
+                && b[2] <= 11
+                && operand(left, b[3])
+                && operand(right, b[4])
+                && b[5] < n
+                && (b[2] == 0 || b[6..10] == [0; 4])
+        }
+        2 => b[1] == 0 && b[2] <= 2 && readable(b[3], k) && readable(b[4], k) && b[5] < n && b[6] < n && b[7..10] == [0; 3],
+        3 => b[1..10] == [0; 9],
+        _ => false,
+    }
+}
+
+fn place(file: &[u8], p: usize) -> &[u8] {
+    let at = 512 * (1 + p / 51) + 10 * (p % 51);
+    &file[at..at + 10]
+}
+
+/// Load's input checks: k, n and the first box, or the refusal.
+pub fn check(file: &[u8]) -> Result<(u8, u8, u8), (u32, u32)> {
+    if ![1024, 1536, 2048, 2560].contains(&file.len()) {
+        return Err((1, 0));
+    }
+    if let Some(j) = file.chunks(512).position(|b| !is_sealed(b)) {
+        return Err((2, j as u32));
+    }
+    if &file[..5] != b"FLOW\x01" {
+        return Err((3, 0));
+    }
+    let (k, n, first) = (file[5], file[6], file[7]);
+    if k > 16 || n == 0 || n > 204 || first >= n || file[8..510].iter().any(|b| *b != 0) {
+        return Err((4, 0));
+    }
+    if file.len() != 512 * (1 + (usize::from(n) + 50) / 51) {
+        return Err((5, 0));
+    }
+    for p in 0..51 * (file.len() / 512 - 1) {
+        let b = place(file, p);
+        let right = if p < usize::from(n) { is_box(b, k, n) } else { b == [0; 10] };
+        if !right {
+            return Err((6, p as u32));
+        }
+    }
+    Ok((k, n, first))
+}
+
+/// The ten bytes of a box as a part of its file.
+pub fn show_box(file: &[u8], number: u32) -> &[u8] {
+    match check(file) {
+        Ok((_, n, _)) if number < u32::from(n) => place(file, number as usize),
+        _ => &[],
+    }
+}
+
+impl Runner {
+    pub fn new() -> Runner {
+        Runner {
+            table: [0; 2040],
+            vars: [0; 32],
+            marks: [0; 32],
+            counter: 0,
+            inputs: 0,
+            boxes: 0,
+            first: 0,
+            mode: 0,
+            at: 0,
+            limit: 0,
+            steps: 0,
+            value: 0,
+            state: State::Resting,
+        }
+    }
+
+    fn rest(&mut self, state: State, value: u32) {
+        self.vars = [0; 32];
+        self.marks = [0; 32];
+        self.counter = 0;
+        self.state = state;
+        self.value = value;
+    }
+
+    pub fn load(&mut self, file: &[u8]) -> Told {
+        if self.state == State::Running {
+            return Told::Refused(22, 0);
+        }
+        match check(file) {
+            Err((number, detail)) => Told::Refused(number, detail),
+            Ok((inputs, boxes, first)) => {
+                self.table = [0; 2040];
+                for (to, block) in self.table.chunks_mut(510).zip(file[512..].chunks(512)) {
+                    to.copy_from_slice(&block[..510]);
+                }
+                (self.inputs, self.boxes, self.first) = (inputs, boxes, first);
+                self.rest(State::Resting, 0);
+                Told::Chart { inputs, boxes }
+            }
+        }
+    }
+
+    pub fn begin(&mut self, mode: u32, inputs: &[u32], allowed: u32, limit: u32) -> Told {
+        let refused = |number| Told::Refused(number, 0);
+        if self.boxes == 0 {
+            return refused(21);
+        }
+        if self.state == State::Running {
+            return refused(22);
+        }
+        if mode > 2 {
+            return refused(7);
+        }
+        if inputs.len() != usize::from(self.inputs) {
+            return refused(9);
+        }
+        if allowed >> self.inputs != 0 {
+            return refused(8);
+        }
+        if limit > 65535 {
+            return refused(10);
+        }
+        self.vars = [0; 32];
+        self.vars[..inputs.len()].copy_from_slice(inputs);
+        self.marks = [0; 32];
+        for j in 0..inputs.len() {
+            self.marks[j] = u8::from(allowed >> j & 1 == 0);
+        }
+        self.counter = 0;
+        self.mode = mode as u8;
+        self.at = self.first;
+        self.limit = if limit == 0 { 4096 } else { limit };
+        self.steps = 0;
+        self.value = 0;
+        self.state = State::Running;
+        Told::Done
+    }
+
+    fn assign(&mut self, b: [u8; 10]) {
+        let (t, i, j) = (usize::from(b[1] % 32), usize::from(b[3] % 32), usize::from(b[4] % 32));
+        let (x, y) = (self.vars[i], self.vars[j]);
+        let value = match b[2] {
+            0 => u32::from_le_bytes([b[6], b[7], b[8], b[9]]),
+            1 => x,
+            2 => x.wrapping_add(y),
+            3 => x.wrapping_sub(y),
+            4 => x.wrapping_mul(y),
+            5 => x.checked_div(y).unwrap_or(0),
+            6 => x.checked_rem(y).unwrap_or(x),
+            7 => x.min(y),
+            8 => x.max(y),
+            9 => x.count_ones(),
+            10 => x.leading_zeros(),
+            _ => x.trailing_zeros(),
+        };
+        let read = match b[2] {
+            0 => 0,
+            1 | 9 | 10 | 11 => self.marks[i],
+            _ => self.marks[i] | self.marks[j],
+        };
+        match self.mode {
+            0 => {}
+            1 => self.marks[t] = read,
+            _ => self.marks[t] |= read,
+        }
+        self.vars[t] = value;
+        self.at = b[5];
+    }
+
+    /// Runs the box at hand; an ending, if it is one.
+    fn step(&mut self) -> Option<(State, u32)> {
+        let p = 10 * usize::from(self.at);
+        let b: [u8; 10] = match self.table.get(p..p + 10) {
+            Some(b) => b.try_into().unwrap(),
+            None => return Some((State::Notice, 0)),
+        };
+        match b[0] {
+            1 => self.assign(b),
+            2 => {
+                let (i, j) = (usize::from(b[3] % 32), usize::from(b[4] % 32));
+                let read = self.marks[i] | self.marks[j];
+                if self.mode == 1 && read != 0 {
+                    return Some((State::Notice, 0));
+                }
+                if self.mode == 2 {
+                    self.counter |= read;
+                }
+                let (x, y) = (self.vars[i], self.vars[j]);
+                let holds = match b[2] {
+                    0 => x == y,
+                    1 => x < y,
+                    _ => x <= y,
+                };
+                self.at = if holds { b[5] } else { b[6] };
+            }
+            _ => {
+                let notice = match self.mode {
+                    0 => false,
+                    1 => self.marks[31] != 0,
+                    _ => self.marks[31] | self.counter != 0,
+                };
+                return Some(if notice { (State::Notice, 0) } else { (State::Value, self.vars[31]) });
+            }
+        }
+        None
+    }
+
+    pub fn advance(&mut self, m: u32) -> Told {
+        if self.state != State::Running {
+            return Told::Refused(23, 0);
+        }
+        for _ in 0..m {
+            let ending = self.step();
+            self.steps += 1;
+            if let Some((state, value)) = ending {
+                self.rest(state, value);
+                return Told::Ended(self.steps);
+            }
+            if self.steps >= self.limit {
+                self.rest(State::Spent, 0);
+                return Told::Ended(self.steps);
+            }
+        }
+        Told::Running(self.steps)
+    }
+
+    pub fn answer(&self) -> Told {
+        match self.state {
+            State::Value => Told::Value { value: self.value, steps: self.steps },
+            State::Notice => Told::Notice(self.steps),
+            State::Spent => Told::Spent(self.steps),
+            _ => Told::Refused(24, 0),
+        }
+    }
+
+    pub fn abandon(&mut self) -> Told {
+        if self.state != State::Running {
+            return Told::Refused(23, 0);
+        }
+        self.rest(State::Resting, 0);
+        Told::Done
+    }
+
+    pub fn write_back(&self, buf: &mut [u8]) -> Told {
+        if self.boxes == 0 {
+            return Told::Refused(21, 0);
+        }
+        let length = 512 * (1 + (usize::from(self.boxes) + 50) / 51);
+        if buf.len() < length {
+            return Told::Refused(12, 0);
+        }
+        for (j, block) in buf[..length].chunks_mut(512).enumerate() {
+            if j == 0 {
+                block[..510].fill(0);
+                block[..5].copy_from_slice(b"FLOW\x01");
+                block[5..8].copy_from_slice(&[self.inputs, self.boxes, self.first]);
+            } else {
+                block[..510].copy_from_slice(&self.table[510 * (j - 1)..510 * j]);
+            }
+            let check = check_of(block) as u16;
+            block[510..].copy_from_slice(&check.to_le_bytes());
+        }
+        Told::Written(length)
+    }
+}
+
+impl Default for Runner {
+    fn default() -> Runner {
+        Runner::new()
+    }
+}

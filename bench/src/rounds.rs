@@ -1,0 +1,98 @@
+//! Many rounds of one call, what each told folded into a sum: the same rounds as `crates/rounds`, for both plain runners.
+use crate::by_value;
+use crate::plain;
+use crate::plain::Told;
+
+/// What a call tells as three numbers.
+pub fn numbers(told: Told) -> [u32; 3] {
+    match told {
+        Told::Done => [0, 0, 0],
+        Told::Chart { inputs, boxes } => [1, inputs.into(), boxes.into()],
+        Told::Running(steps) => [2, steps, 0],
+        Told::Ended(steps) => [3, steps, 0],
+        Told::Value { value, steps } => [4, value, steps],
+        Told::Notice(steps) => [5, steps, 0],
+        Told::Spent(steps) => [6, steps, 0],
+        Told::Refused(number, detail) => [7, number, detail],
+        Told::Written(length) => [8, length as u32, 0],
+    }
+}
+
+pub fn fold(sum: u64, word: u32) -> u64 {
+    (sum ^ sum >> 7).wrapping_add(word.into())
+}
+
+fn fold_told(sum: u64, told: Told) -> u64 {
+    numbers(told).into_iter().fold(sum, fold)
+}
+
+/// Health checks: begin, advance to the end, answer. Input 0 is one more each round.
+pub fn checks(file: &[u8], mode: u32, inputs: &[u32], allowed: u32, limit: u32, rounds: u32) -> u64 {
+    let mut runner = plain::Runner::new();
+    runner.load(file);
+    let mut own = [0; 16];
+    let k = inputs.len().min(16);
+    own[..k].copy_from_slice(&inputs[..k]);
+    let mut sum = 0;
+    for _ in 0..rounds {
+        own[0] = own[0].wrapping_add(1);
+        runner.begin(mode, &own[..k], allowed, limit);
+        runner.advance(65535);
+        sum = fold_told(sum, runner.answer());
+    }
+    sum
+}
+
+/// The same by value.
+pub fn checks_by_value(file: &[u8], mode: u32, inputs: &[u32], allowed: u32, limit: u32, rounds: u32) -> u64 {
+    let mut runner = by_value::Runner::new().load(file).runner;
+    let mut own = [0; 16];
+    let k = inputs.len().min(16);
+    own[..k].copy_from_slice(&inputs[..k]);
+    let mut sum = 0;
+    for _ in 0..rounds {
+        own[0] = own[0].wrapping_add(1);
+        let turn = runner.begin(mode, &own[..k], allowed, limit).runner.advance(65535).runner.answer();
+        sum = fold_told(sum, turn.told);
+        runner = turn.runner;
+    }
+    sum
+}
+
+/// Loads of two files in turn, each of which is a half of the bytes.
+pub fn loads(files: &[u8], rounds: u32) -> u64 {
+    let (one, other) = files.split_at(files.len() / 2);
+    let mut runner = plain::Runner::new();
+    let mut sum = 0;
+    for i in 0..rounds {
+        let file = if i % 2 == 0 { one } else { other };
+        sum = fold_told(sum, runner.load(file));
+    }
+    sum
+}
+
+/// Write backs of one chart; of each, one byte of the buffer is folded too.
+pub fn writes(file: &[u8], buf: &mut [u8], rounds: u32) -> u64 {
+    let mut runner = plain::Runner::new();
+    runner.load(file);
+    let mut sum = 0;
+    for i in 0..rounds {
+        sum = fold_told(sum, runner.write_back(buf));
+        let byte = buf.get_mut(i as usize % 2048).map_or(0, |b| std::mem::replace(b, 255));
+        sum = fold(sum, byte.into());
+    }
+    sum
+}
+
+/// Boxes shown, by numbers below 256; of each, the length and the byte at 5 are folded.
+pub fn shows(file: &[u8], rounds: u32) -> u64 {
+    let mut sum = 0;
+    for i in 0..rounds {
+        let part = plain::show_box(file, i % 256);
+        sum = fold(sum, part.len() as u32);
+        if part.len() == 10 {
+            sum = fold(sum, part[5].into());
+        }
+    }
+    sum
+}

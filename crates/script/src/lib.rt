@@ -1,0 +1,146 @@
+// The library for callers in other languages, to be compared: a list of calls, given as numbers, and what each tells.
+//
+// A call is 24 numbers: its kind, then its arguments. 0 load and 6 show a box: where the file starts among the lent bytes, its length, and the number of
+// the box; 1 begin: mode, allowed set, limit, how many inputs, and the inputs; 2 advance: the amount; 3 answer; 4 abandon; 5 write back: how many
+// bytes of the buffer are lent.
+use rounds::least;
+use runner::Runner;
+use told::Told;
+
+// After a call: the runner, what was told, and a sum over the bytes of a lent buffer or a returned part.
+struct Turn {
+    runner: Runner,
+    told: Told,
+    sum: u32,
+}
+
+fn after(runner: Runner, told: Told, sum: u32) -> Turn {
+    Turn { runner, told, sum }
+}
+
+// The number at a place, 0 past the end.
+fn word(words: &[u32], i: usize) -> u32 {
+    if i < words.len() {
+        return words[i];
+    }
+    0
+}
+
+// So many of the lent bytes, or as many as there are.
+fn part(files: &[u8], from: u32, length: u32) -> &[u8] {
+    let start = least(from as usize, files.len());
+    let end = start + least(length as usize, files.len() - start);
+    &files[start..end]
+}
+
+fn sum_of(bytes: &[u8]) -> u32 {
+    let mut sum: u32 = 0;
+    let mut i: usize = 0;
+    while i < bytes.len() {
+        sum = std::num::wrapping_add_u32((sum << 5) ^ (sum >> 3), widen::to_u32(bytes[i]));
+        i += 1;
+    }
+    sum
+}
+
+fn begin(runner: Runner, words: &[u32]) -> Turn {
+    let count = least(word(words, 4) as usize, 17);
+    let mut inputs = [0u32; 17];
+    for j in 0..17 {
+        inputs[j] = word(words, 5 + j);
+    }
+    let all = &inputs[..];
+    let begun = runner.begin(
+        word(words, 1),
+        &all[..count],
+        word(words, 2),
+        word(words, 3),
+    );
+    let next = begun.runner;
+    let told = begun.told;
+    after(next, told::of_verdict(told), 0)
+}
+
+fn write(runner: Runner, room: u32, buf: &mut [u8]) -> Turn {
+    let end = least(room as usize, buf.len());
+    let told = told::of_written(runner.write_back(&mut buf[..end]));
+    after(runner, told, sum_of(buf))
+}
+
+// One call.
+fn make(runner: Runner, files: &[u8], words: &[u32], buf: &mut [u8]) -> Turn {
+    match word(words, 0) {
+        0 => {
+            let loading = runner.load(part(files, word(words, 1), word(words, 2)));
+            let next = loading.runner;
+            let told = loading.told;
+            after(next, told::of_load(told), 0)
+        }
+        1 => begin(runner, words),
+        2 => {
+            let advanced = runner.advance(word(words, 1));
+            let next = advanced.runner;
+            let told = advanced.told;
+            after(next, told::of_advance(told), 0)
+        }
+        3 => after(runner, told::of_answer(runner.answer()), 0),
+        4 => {
+            let dropped = runner.abandon();
+            let next = dropped.runner;
+            let told = dropped.told;
+            after(next, told::of_verdict(told), 0)
+        }
+        5 => write(runner, word(words, 1), buf),
+        _ => {
+            let shown = chart::show_box(
+                part(files, word(words, 1), word(words, 2)),
+                word(words, 3),
+            );
+            after(runner, told::make(9, shown.len() as u64, 0), sum_of(shown))
+        }
+    }
+}
+
+fn store(told: &mut [u32], at: usize, number: u32) {
+    if at < told.len() {
+        told[at] = number;
+    }
+}
+
+// The four numbers of call i, where there is room for them.
+fn put(told: &mut [u32], i: usize, made: Told, sum: u32) {
+    if i < told.len() / 4 {
+        let to = 4 * i;
+        let second = to + 1;
+        let third = to + 2;
+        let fourth = to + 3;
+        store(told, to, made.kind);
+        store(told, second, (made.first % 4294967296) as u32);
+        store(told, third, made.second);
+        store(told, fourth, sum);
+    }
+}
+
+// Makes the calls of a list, on a new runner, and answers how many there are. Each tells four numbers: the three of `told`, and the sum.
+#[no_mangle]
+pub extern "C" fn flow_script(
+    files: &[u8],
+    words: &[u32],
+    told: &mut [u32],
+    buf: &mut [u8],
+) -> usize {
+    let calls = words.len() / 24;
+    let mut runner = Runner::new();
+    let mut i: usize = 0;
+    while i < calls {
+        let at = 24 * i;
+        let end = at + 24;
+        let next = i + 1;
+        let made = make(runner, files, &words[at..end], buf);
+        runner = made.runner;
+        let numbers = made.told;
+        put(told, i, numbers, made.sum);
+        i = next;
+    }
+    calls
+}

@@ -1,0 +1,45 @@
+-- `of_load` has the numbers of each of load's answers.
+use Rattle.runner.specs.Replies.{loadReply}
+use Rattle.told.specs.Told.{encode}
+use borrow.Author.Needs.{needs}
+use Rattle.told.proofs.of_load.Statement.{statement}
+use Rattle.told.proofs.of_load.Tie as tie
+
+enum-known-told : tie.Need-enum-known-told
+enum-known-told c = search needs
+
+cast-make : tie.Need-cast-make
+cast-make c = search needs
+
+cast-make-2 : tie.Need-cast-make-2
+cast-make-2 c = search needs
+
+make-requires : tie.Need-make-requires
+make-requires c κs = search needs
+
+enum-known-told-2 : tie.Need-enum-known-told-2
+enum-known-told-2 c = search needs
+
+refused-requires : tie.Need-refused-requires
+refused-requires c κs = search needs
+
+returns : tie.Need-returns
+unfolding encode loadReply
+returns c = rw (c .before .before .told .given .1) (c .make .ensures)
+
+returns-2 : tie.Need-returns-2
+unfolding encode loadReply
+returns-2 c = rw (c .before .before .told2 .given .1) (c .refused .ensures)
+
+pub of-load-spec : {M : Type 1} → statement M
+of-load-spec =
+    tie.close
+    (tie.spec
+    enum-known-told
+    cast-make
+    cast-make-2
+    make-requires
+    enum-known-told-2
+    refused-requires
+    returns
+    returns-2)

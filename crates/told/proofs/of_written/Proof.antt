@@ -1,0 +1,31 @@
+-- `of_written` has the numbers of each of write back's answers.
+use Rattle.runner.specs.Replies.{writtenReply}
+use Rattle.told.specs.Told.{encode}
+use borrow.Author.Needs.{needs}
+use Rattle.told.proofs.of_written.Statement.{statement}
+use Rattle.told.proofs.of_written.Tie as tie
+
+enum-known-told : tie.Need-enum-known-told
+enum-known-told c = search needs
+
+make-requires : tie.Need-make-requires
+make-requires c κs = search needs
+
+enum-known-told-2 : tie.Need-enum-known-told-2
+enum-known-told-2 c = search needs
+
+refused-requires : tie.Need-refused-requires
+refused-requires c κs = search needs
+
+returns : tie.Need-returns
+unfolding encode writtenReply
+returns c = rw (c .before .before .told .given .1) (c .make .ensures)
+
+returns-2 : tie.Need-returns-2
+unfolding encode writtenReply
+returns-2 c = rw (c .before .before .told2 .given .1) (c .refused .ensures)
+
+pub of-written-spec : {M : Type 1} → statement M
+of-written-spec =
+    tie.close
+    (tie.spec enum-known-told make-requires enum-known-told-2 refused-requires returns returns-2)
