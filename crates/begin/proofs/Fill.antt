@@ -5,8 +5,8 @@ use mathlib.Core.Path.{_≡_, ap, sym, _∙_}
 use mathlib.Core.List.{List, [], _∷_, _++_}
 use native.Mathlib.Numerals.{add-one}
 use native.Mathlib.Omega.{arith}
-use lib.ListN.{length, getD, take, replicate, length-take}
-use lib.Seq.{take-length, take-suc, take-take}
+use lib.ListN.{length, getD, take, replicate}
+use lib.Seq.{take-suc}
 use Rattle.lists.proofs.Parts.{take-min}
 use Rattle.begin.specs.Begin.{firstVars, withheldMark, withheldMarks, firstMarks}
 

@@ -1,6 +1,6 @@
 -- Laws of the weighted sum: how a loop that goes up adds to it, and the range of a check.
 -- term-small; sum-more, sum-end; check-small, check-front. Assumes nothing.
-use Prim.Native.Nat.{ℕ, _+_, _*_, _%_, _≤_, _<_, min}
+use Prim.Native.Nat.{ℕ, _+_, _*_, _%_, _^_, _≤_, _<_, min}
 use mathlib.Core.Path.{_≡_, ap, sym, _∙_}
 use mathlib.Core.List.{List}
 use native.Mathlib.Numerals.{add-one}
@@ -18,19 +18,20 @@ unfolding weighted
 sum-here l i h =
     ap (weighted i) (drop-cons l i 0 h) ∙ ap (λ (k : ℕ). (i + 1) * getD l i 0 + weighted (i + 1) (drop k l)) (sym (add-one i))
 
--- The sum s of the terms before i, and the terms from i on: one term more.
-module _ (block : List ℕ) (i s : ℕ) (e : s + weighted i (drop i (take 510 block)) ≡ weighted 0 (take 510 block)) where
-  pub sum-more : (w b : ℕ) → i < min 510 (length block) → w ≡ i + 1 → b ≡ getD block i 0
-      → s + w * b + weighted (i + 1) (drop (i + 1) (take 510 block)) ≡ weighted 0 (take 510 block)
-  sum-more w b h ew eb =
+-- The sum s of the terms before i, modulo 65,536, and the terms from i on: one term more.
+module _ (block : List ℕ) (i s : ℕ) (e : (s + weighted i (drop i (take 510 block))) % 65536 ≡ checksum block) where
+  pub sum-more : (w b next : ℕ) → i < min 510 (length block) → w ≡ i + 1 → b ≡ getD block i 0 → next ≡ (s + w * b % 65536) % 2 ^ 16
+      → (next + weighted (i + 1) (drop (i + 1) (take 510 block))) % 65536 ≡ checksum block
+  unfolding checksum
+  sum-more w b next h ew eb en =
       let here = sum-here (take 510 block) i (omega (arith, length-take 510 block)) in
       let byte : getD (take 510 block) i 0 ≡ b = getD-take 510 block i 0 (omega arith) ∙ sym eb in
       let same : (i + 1) * getD (take 510 block) i 0 ≡ w * b = cc in
       omega arith
 
-  pub sum-end : min 510 (length block) ≤ i → s ≡ weighted 0 (take 510 block)
-  unfolding weighted
-  sum-end h =
+  pub sum-end : min 510 (length block) ≤ i → s < 65536 → s ≡ checksum block
+  unfolding weighted checksum
+  sum-end h q =
       let past : length (take 510 block) ≤ i = omega (arith, length-take 510 block) in
       let none : weighted i (drop i (take 510 block)) ≡ 0 = ap (weighted i) (drop-of-length-le (take 510 block) past) in
       omega arith

@@ -18,15 +18,16 @@ pub fn checksum(block: &[u8]) -> u32
     ensures { λ r. ⌜ r ≡ checksum (now (block .entry)) ⌝ }
 {
     let end = at_most_510(block.len());
-    let mut sum: u32 = 0;
+    let mut sum: u16 = 0;
     let mut weight: u32 = 1;
     let mut i: usize = 0;
     while i < end {
-        sum += weight * widen::to_u32(block[i]);
+        let term = weight * widen::to_u32(block[i]);
+        sum = std::num::wrapping_add_u16(sum, (term % 65536) as u16);
         weight += 1;
         i += 1;
     }
-    sum % 65536
+    sum as u32
 }
 
 // Bytes 510 and 511 hold the block's check, low byte first.

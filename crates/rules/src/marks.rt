@@ -7,13 +7,11 @@ ghost use Rattle.rules.specs.Marks.{modeOf, union, targetMark, decisionN
 pub fn read_mark(op: u8, left: u8, right: u8) -> u8
     ensures { λ m. ⌜ m ≡ union (readBy op left right) ⌝ }
 {
-    if op == 0 {
-        return 0;
+    match op {
+        0 => 0,
+        2..=8 => left | right,
+        _ => left,
     }
-    if (2 <= op) & (op <= 8) {
-        return left | right;
-    }
-    left
 }
 
 // The mark of the target after an assignment, from its mark before and the marks read.

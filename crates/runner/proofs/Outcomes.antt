@@ -1,6 +1,6 @@
 -- The outcome of each call, case by case, over plain variables: what the proof of a method cites where it returns. Assumes nothing.
 use Prim.Native.Nat.{ℕ, _≤_, _<_}
-use mathlib.Core.Path.{_≡_, ap, sym, _∙_}
+use mathlib.Core.Path.{_≡_, refl, ap, sym, _∙_}
 use mathlib.Core.List.{List, [], _++_}
 use mathlib.Core.Bool.{Bool, true, false, cond, not}
 use native.Mathlib.Omega.{arith}
@@ -22,7 +22,7 @@ use Rattle.begin.specs.declared.Verdict.{Verdict}
 use Rattle.begin.specs.declared.Verdict.the-variants.{Done, Refused}
 use Rattle.runner.specs.declared.Runner.{Runner}
 use Rattle.runner.specs.declared.LoadTold.the-variants as load
-use Rattle.runner.specs.declared.AdvanceTold.the-variants as advance
+use Rattle.runner.specs.declared.AdvanceTold.{AdvanceTold}
 use Rattle.runner.specs.declared.AnswerTold.the-variants as answer
 use Rattle.runner.specs.State.{headerIn, isRunning, endingIn, idle, dropped}
 use Rattle.runner.specs.Step.{run}
@@ -76,23 +76,26 @@ module _ (mode : ℕ) (inputs : List ℕ) (allowed limit : ℕ) (r : Runner) whe
   begin-refuses v x e d =
       ap (λ (y : Verdict). outcome (verdictReply y) [] r) d ∙ by-verdict (calls.begin mode inputs allowed limit) r (Refused x) (sym e ∙ d)
 
--- Advance: where no run is under way, and what a run under way comes to.
+-- Advance: what the boxes that it may run come to, none where no run is under way.
 module _ (m : ℕ) (r : Runner) where
-  pub advance-refuses : (x : Refusal) → x ≡ refusal 23 0 → (r .state ≡ 1 → ⊥) → outcome (advanceReply (advance.Refused x)) [] r ≡ call (calls.advance m) r
-  unfolding check advanceReply carried
-  advance-refuses x d n = ap (λ (y : Refusal). outcome (calls.turnedAway y) [] r) d ∙ by-verdict (calls.advance m) r (refuse 23) (rw (ne-eqb _ _ n))
+  tells : (steps : ℕ) (on : Bool) (next : Runner) → isRunning next ≡ on → steps ≡ cond on (next .steps) (next .count)
+      → cond on (calls.running steps) (calls.ended steps) ≡ cond (isRunning next) (calls.running (next .steps)) (calls.ended (next .count))
+  tells steps true next i s = rw i (ap calls.running s)
+  tells steps false next i s = rw i (ap calls.ended s)
 
-  advance-does : r .state ≡ 1 → outcome (says (calls.advance m) r) [] (run m r) ≡ call (calls.advance m) r
-  unfolding check carried leaves after
-  advance-does e = by-verdict (calls.advance m) r Done (rw e)
-
-  pub advance-runs : (q : Runner) → r .state ≡ 1 → run m r ≡ q → q .state ≡ 1 → outcome (advanceReply (advance.Running (q .steps))) [] q ≡ call (calls.advance m) r
-  unfolding says advanceReply
-  advance-runs q e d s = sym (rw (d, s)) ∙ advance-does e
-
-  pub advance-ends : (q : Runner) → r .state ≡ 1 → run m r ≡ q → isRunning q ≡ false → outcome (advanceReply (advance.Ended (q .count))) [] q ≡ call (calls.advance m) r
-  unfolding says advanceReply
-  advance-ends q e d n = sym (rw (d, n)) ∙ advance-does e
+  pub advance-does : (running on : Bool) (next : Runner) (steps : ℕ) (told : AdvanceTold) → running ≡ isRunning r → next ≡ run (cond running m 0) r
+      → (running ≡ true → isRunning next ≡ on) → steps ≡ cond on (next .steps) (next .count)
+      → advanceReply told ≡ cond running (cond on (calls.running steps) (calls.ended steps)) (calls.refused 23 0)
+      → outcome (advanceReply told) [] next ≡ call (calls.advance m) r
+  unfolding run check carried says leaves after
+  advance-does true on next steps told e d i s t =
+      ap (λ (x : calls.Reply). outcome x [] next) (t ∙ tells steps on next (i refl) s)
+      ∙ ap (λ (q : Runner). outcome (cond (isRunning q) (calls.running (q .steps)) (calls.ended (q .count))) [] q) d
+      ∙ by-verdict (calls.advance m) r Done (rw (sym e))
+  advance-does false on next steps told e d i s t =
+      ap (λ (x : calls.Reply). outcome x [] next) t
+      ∙ ap (outcome (calls.refused 23 0) []) d
+      ∙ by-verdict (calls.advance m) r (refuse 23) (rw (sym e))
 
 -- A length that write back tells is the file's.
 length-told : (n : ℕ) (h : Header) (room : ℕ) → written.Length n ≡ writing.writeBack h room → n ≡ fileLength h

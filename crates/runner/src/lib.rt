@@ -8,10 +8,11 @@ use rules::decode::FlowBox;
 ghost use mathlib.Core.Path.{_≡_};
 ghost use mathlib.Core.Bool.{cond};
 ghost use mathlib.Core.List.{[]};
+ghost use lib.Dec.{eqb};
 ghost use Rattle.format.specs.File.{refusal};
 ghost use Rattle.runner.specs.State.{newRunner, resting, headerIn};
-ghost use Rattle.runner.specs.Step.{run};
 ghost use Rattle.runner.specs.Calls.{load, begin, advance, answer, abandon, writeBack, call};
+ghost use Rattle.runner.specs.Calls as calls;
 ghost use Rattle.runner.specs.Replies.{loadReply, verdictReply, advanceReply, answerReply, writtenReply, outcome};
 
 // The chart that is held: the box table, and the header's `inputs`, `boxes` and `first`. Of a run under way: the variables, their marks, the
@@ -171,29 +172,27 @@ impl Runner {
                 self.state = 1;
                 self.count = 0;
                 self.value = 0;
-                return Changed {
-                    told: Verdict::Done,
-                    runner: self,
-                };
             }
-            Verdict::Refused(_) => {
-                return Changed { told, runner: self };
-            }
+            Verdict::Refused(_) => {}
         }
+        Changed { told, runner: self }
     }
 
-    // Runs m boxes of a run under way, or fewer if it ends.
-    fn run(mut self, m: u32) -> Runner
-        requires { ⌜ self .state ≡ 1 ⌝ }
-        ensures { λ r. ⌜ r ≡ run m self ⌝ }
+    // Runs m boxes, or fewer if the run ends, and tells which. `end` is the state that the run comes to; it stays 1 where the run has not ended.
+    pub fn advance(mut self, m: u32) -> Advanced
+        ensures { λ r. ⌜ outcome (advanceReply (r .told)) [] (r .runner) ≡ call (advance m) self ⌝ }
     {
+        let running = self.state == 1;
         let limit = self.limit as u32;
         let mode = self.mode;
-        let mut todo = m;
+        let mut todo = amount(running, m);
+        let mut at = self.at;
+        let mut steps = self.steps as u32;
+        let mut end: u8 = 1;
+        let mut value: u32 = 0;
         while 0 < todo {
             todo = todo - 1;
-            let count = (self.steps as u32) + 1;
-            let at = self.at;
+            steps = steps + 1;
             let b = rules::decode::box_at(&self.table, at);
             match b {
                 FlowBox::Assign {
@@ -207,12 +206,12 @@ impl Runner {
                     let t = (target % 32) as usize;
                     let i = (left % 32) as usize;
                     let j = (right % 32) as usize;
-                    let value = rules::ops::result(op, self.vars[i], self.vars[j], constant);
+                    let v = rules::ops::result(op, self.vars[i], self.vars[j], constant);
                     let read = rules::marks::read_mark(op, self.marks[i], self.marks[j]);
                     let mark = rules::marks::target_mark(mode, self.marks[t], read);
-                    self.vars[t] = value;
+                    self.vars[t] = v;
                     self.marks[t] = mark;
-                    self.at = next;
+                    at = next;
                 }
                 FlowBox::Decide {
                     comparison,
@@ -225,43 +224,45 @@ impl Runner {
                     let j = (right % 32) as usize;
                     let read = self.marks[i] | self.marks[j];
                     if rules::marks::decision_notices(mode, read) {
-                        return self.rest(3, count, 0);
+                        end = 3;
+                        break;
                     }
                     self.counter = rules::marks::counter_mark(mode, self.counter, read);
                     let holds = rules::ops::compare(comparison, self.vars[i], self.vars[j]);
-                    self.at = way(holds, next, other);
+                    at = way(holds, next, other);
                 }
                 FlowBox::Halt => {
                     if rules::marks::halt_notices(mode, self.counter, self.marks[31]) {
-                        return self.rest(3, count, 0);
+                        end = 3;
+                        break;
                     }
-                    let value = self.vars[31];
-                    return self.rest(2, count, value);
+                    end = 2;
+                    value = self.vars[31];
+                    break;
                 }
             }
-            if limit <= count {
-                return self.rest(4, count, 0);
+            if limit <= steps {
+                end = 4;
+                break;
             }
-            self.steps = count as u16;
         }
-        self
-    }
-
-    // Runs m boxes, or fewer if the run ends, and tells which.
-    pub fn advance(self, m: u32) -> Advanced
-        ensures { λ r. ⌜ outcome (advanceReply (r .told)) [] (r .runner) ≡ call (advance m) self ⌝ }
-    {
-        if self.state != 1 {
-            let told = AdvanceTold::Refused(refusal(23));
-            return Advanced { told, runner: self };
+        if end == 1 {
+            self.at = at;
+            self.steps = steps as u16;
+        } else {
+            self.vars = [0; 32];
+            self.marks = [0; 32];
+            self.counter = 0;
+            self.mode = 0;
+            self.at = 0;
+            self.limit = 0;
+            self.steps = 0;
+            self.state = end;
+            self.count = steps;
+            self.value = value;
         }
-        let runner = self.run(m);
-        if runner.state == 1 {
-            let told = AdvanceTold::Running(runner.steps as u32);
-            return Advanced { told, runner };
-        }
-        let told = AdvanceTold::Ended(runner.count);
-        Advanced { told, runner }
+        let told = tell(running, end, steps);
+        Advanced { told, runner: self }
     }
 
     // Drops the run under way.
@@ -316,4 +317,25 @@ fn way(holds: bool, next: u8, other: u8) -> u8
     ensures { λ r. ⌜ r ≡ cond holds next other ⌝ }
 {
     if holds { next } else { other }
+}
+
+// How many boxes an advance by m may run.
+fn amount(running: bool, m: u32) -> u32
+    ensures { λ r. ⌜ r ≡ cond running m 0 ⌝ }
+{
+    if running { m } else { 0 }
+}
+
+// What advance tells of a run that has come to state `end`, where one was under way.
+fn tell(running: bool, end: u8, steps: u32) -> AdvanceTold
+    ensures { λ r.
+        ⌜ advanceReply r ≡ cond running (cond (eqb end 1) (calls.running steps) (calls.ended steps)) (calls.refused 23 0) ⌝ }
+{
+    if running {
+        if end == 1 {
+            return AdvanceTold::Running(steps);
+        }
+        return AdvanceTold::Ended(steps);
+    }
+    AdvanceTold::Refused(refusal(23))
 }

@@ -1,6 +1,6 @@
--- `checksum` goes up the bytes: the sum so far and the terms still to come are the whole sum.
-use Prim.Native.Nat.{ℕ, _+_, _*_, _-_, _%_, _≤_, min}
-use mathlib.Core.Path.{_≡_, ap}
+-- `checksum` goes up the bytes: the sum so far and the terms still to come are the whole sum, modulo 65,536.
+use Prim.Native.Nat.{_+_, _-_, _%_, _≤_, _<_, min}
+use mathlib.Core.Path.{_≡_}
 use native.Mathlib.Omega.{arith}
 use borrow.Author.Needs.{needs}
 use lib.ListN.{length, take, drop}
@@ -15,8 +15,8 @@ Inv-loop block end sum₀ weight₀ i₀ sum weight i =
     (end ≡ min 510 (length block))
     × (i ≤ end)
     × (weight ≡ i + 1)
-    × (sum ≤ 130050 * i)
-    × (sum + weighted i (drop i (take 510 block)) ≡ weighted 0 (take 510 block))
+    × (sum < 65536)
+    × ((sum + weighted i (drop i (take 510 block))) % 65536 ≡ checksum block)
 
 abbrev μ-loop : tie.MeasureT-loop
 μ-loop block end sum₀ weight₀ i₀ sum weight i = end - i
@@ -25,6 +25,7 @@ at-most-510-requires : tie.Need-at-most-510-requires Inv-loop μ-loop
 at-most-510-requires c κs = search needs
 
 loop-holds : tie.Need-loop-holds Inv-loop μ-loop
+unfolding checksum
 loop-holds c = search needs
 
 shared-slice-read-to-u32 : tie.Need-shared-slice-read-to-u32 Inv-loop μ-loop
@@ -33,15 +34,17 @@ shared-slice-read-to-u32 c = search needs
 to-u32-requires : tie.Need-to-u32-requires Inv-loop μ-loop
 to-u32-requires c κs = search needs
 
--- The term of a turn is small.
-term : (c : tie.After-to-u32 Inv-loop μ-loop) → let l = c .before .before .before .loop in l .weight * c .to-u32 .result ≤ 130050
-term c = let l = c .before .before .before .loop in term-small (l .i) (l .weight) (c .to-u32 .result) (omega arith) (omega arith) (omega arith)
+mul-term : tie.Need-mul-term Inv-loop μ-loop
+mul-term c =
+    let l = c .before .before .before .loop in
+    let small = term-small (l .i) (l .weight) (c .to-u32 .result) (omega arith) (omega arith) (omega arith) in
+    search needs
 
-mul-sum : tie.Need-mul-sum Inv-loop μ-loop
-mul-sum c = omega (arith, term c)
+cast-wrapping-add-u16 : tie.Need-cast-wrapping-add-u16 Inv-loop μ-loop
+cast-wrapping-add-u16 c = search needs
 
-add-sum : tie.Need-add-sum Inv-loop μ-loop
-add-sum c = omega (arith, term c)
+wrapping-add-u16-requires : tie.Need-wrapping-add-u16-requires Inv-loop μ-loop
+wrapping-add-u16-requires c κs = search needs
 
 add-weight : tie.Need-add-weight Inv-loop μ-loop
 add-weight c = search needs
@@ -54,20 +57,22 @@ loop-less c = search needs
 
 loop-again : tie.Need-loop-again Inv-loop μ-loop
 loop-again c =
-    let l = c .before .before .before .loop in
-    let small = term c in (
+    let l = c .before .before .before .before .loop in (
       omega arith,
       omega arith,
       omega arith,
       omega arith,
-      sum-more (now (c .before .before .before .before .before .before .args .block)) (l .i) (l .sum) (l .inv .4) (l .weight) (c .to-u32 .result) (omega arith) (omega arith) (c .to-u32 .ensures .0),
+      sum-more (now (c .before .before .before .before .before .before .before .args .block)) (l .i) (l .sum) (l .inv .4) (l .weight) (c .before .to-u32 .result) (c .wrapping-add-u16 .result) (omega arith) (omega arith) (c .before .to-u32 .ensures .0)
+          (c .wrapping-add-u16 .ensures),
     )
 
+cast-result : tie.Need-cast-result Inv-loop μ-loop
+cast-result c = search needs
+
 returns : tie.Need-returns Inv-loop μ-loop
-unfolding checksum
 returns c =
     let l = c .before .loop in
-    ap (λ (n : ℕ). n % 65536) (sum-end (now (c .before .before .before .before .args .block)) (l .i) (l .sum) (l .inv .4) (omega arith))
+    sum-end (now (c .before .before .before .before .args .block)) (l .i) (l .sum) (l .inv .4) (omega arith) (l .inv .3)
 
 pub checksum-spec : {M : Type 1} → statement M
 checksum-spec =
@@ -79,10 +84,12 @@ checksum-spec =
     loop-holds
     shared-slice-read-to-u32
     to-u32-requires
-    mul-sum
-    add-sum
+    mul-term
+    cast-wrapping-add-u16
+    wrapping-add-u16-requires
     add-weight
     add-i
     loop-less
     loop-again
+    cast-result
     returns)

@@ -1,33 +1,291 @@
--- `advance` tells what a run of m boxes came to: still under way, or ended.
-use mathlib.Core.Path.{sym}
-use borrow.Author.Tests.{ne-eqb}
-use Rattle.runner.proofs.Outcomes.{advance-refuses, advance-runs, advance-ends}
+-- The loop's invariant: the boxes still to run, from here, come to what the boxes asked for come to from the start; the state, the limit and the mode
+-- are the runner's, and no ending is met. Where the arms of a box that does not end the run meet, one law says what it left.
+use mathlib.Core.Path.{_≡_, refl, ap, sym, _∙_}
+use mathlib.Core.Logic.{⊎-elim, inl}
+use mathlib.Core.Bool.{Bool, true, false, cond}
+use Prim.Native.Nat.{ℕ, _≤_, _<_, _^_}
+use native.Mathlib.Omega.{arith}
 use borrow.Author.Needs.{needs}
+use borrow.Author.Tests.{eqb-true}
+use Rattle.runner.specs.declared.Runner.{Runner}
+use Rattle.runner.specs.State.{headerIn, isRunning, valued, notice, spent}
+use Rattle.runner.specs.Step.{run}
+use Rattle.runner.proofs.Boxes.{assign-box, stop-box, go-box, halt-notice-box, halt-value-box, Left, left, seen, spent-left, counted-left, turned, CameTo, came-to, advance-came}
+use Rattle.runner.proofs.Runs.{run-none}
 use Rattle.runner.proofs.Runner.advance.Statement.{statement}
 use Rattle.runner.proofs.Runner.advance.Tie as tie
 
-refusal-requires : tie.Need-refusal-requires
-refusal-requires c κs = search needs
+abbrev Inv-loop : tie.InvT-loop
+Inv-loop m self₀ running limit mode todo₀ at₀ steps₀ end₀ value₀ self todo at steps end value =
+    (run (cond running m 0) self₀ ≡ run todo (seen self at steps))
+    × (todo ≤ cond running m 0)
+    × (self .state ≡ self₀ .state)
+    × (self .limit ≡ limit)
+    × (self .mode ≡ mode)
+    × (steps < 2 ^ 16)
+    × (end ≡ 1)
+    × (value ≡ 0)
 
-returns : tie.Need-returns
-returns c = advance-refuses _ _ (c .refusal .result) (c .refusal .ensures) (c .before .if1 .taken)
+abbrev μ-loop : tie.MeasureT-loop
+μ-loop m self₀ running limit mode todo₀ at₀ steps₀ end₀ value₀ self todo at steps end value = todo
 
-run-requires : tie.Need-run-requires
-run-requires c κs = search needs
+-- A loop that has boxes to run has a run under way.
+under-way : (c : tie.In-loop Inv-loop μ-loop) → c .before .loop .self .state ≡ 1
+under-way c = let l = c .before .loop in l .inv .2 ∙ started (isRunning (c .before .before .before .args .t1)) _ _ refl (l .inv .1) (c .loop-test .taken)
+  where
+    started : (running : Bool) (m todo : ℕ) → isRunning (c .before .before .before .args .t1) ≡ running → todo ≤ cond running m 0 → 0 < todo
+        → c .before .before .before .args .t1 .state ≡ 1
+    started true m todo e h t = eqb-true _ _ e
+    started false m todo e h t = absurd (omega arith)
 
-cast-t9 : tie.Need-cast-t9
-cast-t9 c = search needs
+-- Where the arms of the box meet.
+joined : (c : tie.At-match-came Inv-loop μ-loop) → let l = c .before .before .before .before .before .loop in Left (seen (l .self) (l .at) (l .steps)) (c .match .self) (c .match .at)
+joined c =
+    let at = c .before .box-at in
+    let l = c .before .before .before .before .before .loop in
+    let r = seen (l .self) (l .at) (l .steps) in
+    ⊎-elim
+    (λ w. left (l .self) (c .match .self) (l .at) (l .steps) _ _ _ _ (c .match .at) (w .11) (w .12)
+    (assign-box r _ (at .result) (l .inv .4) (at .ensures) _ _ _ _ _ _ _ _ _ (w .1 .given .1) (w .5 .ensures) (w .8 .ensures) (w .10 .ensures)))
+    (λ w. left (l .self) (c .match .self) (l .at) (l .steps) _ _ _ _ (c .match .at) (w .12) (w .13)
+    (go-box r _ (at .result) (l .inv .4) (at .ensures) _ _ _ _ _ (w .5 .result) (w .1 .given .1) (w .5 .ensures) _ _ (w .10 .result) (w .6 .left) (w .7 .ensures) (w .10 .ensures) (w .11 .ensures)))
+    (c .match .came)
 
-returns-2 : tie.Need-returns-2
-returns-2 c =
-    let ran = c .before .before .before .run in
-    advance-runs _ _ (ran .result) (c .before .before .before .before .if1 .left) (sym (ran .ensures)) (c .before .if2 .taken)
+-- Where the loop is left: no box is to run, a decision or a halt gives a notice, a halt a value, or the limit is reached.
+over : (c : tie.Left-loop Inv-loop μ-loop) → let q = c .loop-test in let a = c .before .before .before .args in
+    CameTo (cond (isRunning (a .t1)) (a .m) 0) (a .t1) (q .self) (q .at) (q .end) (q .value) (q .steps)
+over c =
+    let l = c .before .loop in
+    let r = seen (l .self) (l .at) (l .steps) in
+    let q = c .loop-test in
+    ⊎-elim
+    (λ w. inl (w .5 ∙ l .inv .6, omega arith, ap (λ (x : Runner). x .state) (w .1) ∙ l .inv .2, l .inv .0 ∙ run-none _ r (w .0 .left) ∙ rw (w .1, w .3, w .4) refl))
+    (⊎-elim
+    (λ w. came-to _ (l .todo) _ r (l .inv .0) (under-way (record { before = c .before; loop-test = w .0 })) notice (q .self) (q .at) (q .end) (q .value) (q .steps) (w .0 .taken)
+    (stop-box r _ (w .3 .result) (l .inv .4) (w .3 .ensures) _ _ _ _ _ (w .9 .result) (w .5 .given .1) (w .9 .ensures) (w .10 .taken))
+    (ap headerIn (w .11)) (ap (λ (x : Runner). x .table) (w .11)) (w .15) (w .16 ∙ l .inv .7) (w .14))
+    (⊎-elim
+    (λ w. came-to _ (l .todo) _ r (l .inv .0) (under-way (record { before = c .before; loop-test = w .0 })) notice (q .self) (q .at) (q .end) (q .value) (q .steps) (w .0 .taken)
+    (halt-notice-box r _ (w .3 .result) (l .inv .4) (w .3 .ensures) (w .7 .result) (w .5 .given .1) (w .7 .ensures) (w .8 .taken))
+    (ap headerIn (w .9)) (ap (λ (x : Runner). x .table) (w .9)) (w .13) (w .14 ∙ l .inv .7) (w .12))
+    (⊎-elim
+    (λ w. came-to _ (l .todo) _ r (l .inv .0) (under-way (record { before = c .before; loop-test = w .0 })) (valued _) (q .self) (q .at) (q .end) (q .value) (q .steps) (w .0 .taken)
+    (halt-value-box r _ (w .3 .result) (l .inv .4) (w .3 .ensures) (w .7 .result) (w .5 .given .1) (w .7 .ensures) (w .8 .left))
+    (ap headerIn (w .10)) (ap (λ (x : Runner). x .table) (w .10)) (w .14) (w .15) (w .13))
+    (λ w.
+    let at = joined (record { before = record { before = record { before = record { before = record { before = c .before; loop-test = w .0 }; self = w .1 }; box-at-arg = w .2 }; box-at = w .3 }; match = w .4 }) in
+    came-to _ (l .todo) _ r (l .inv .0) (under-way (record { before = c .before; loop-test = w .0 })) spent (q .self) (q .at) (q .end) (q .value) (q .steps) (w .0 .taken)
+    (spent-left r _ _ at (omega (arith, w .5 .taken, l .inv .3)))
+    (ap headerIn (w .6) ∙ at .header) (ap (λ (x : Runner). x .table) (w .6) ∙ at .table) (w .10) (w .11 ∙ l .inv .7) (w .9)))))
+    (q .came)
 
-returns-3 : tie.Need-returns-3
-returns-3 c =
-    let ran = c .before .before .run in
-    advance-ends _ _ (ran .result) (c .before .before .before .if1 .left) (sym (ran .ensures)) (ne-eqb _ _ (c .if2 .left))
+cast-limit : tie.Need-cast-limit Inv-loop μ-loop
+cast-limit c = search needs
+
+amount-requires : tie.Need-amount-requires Inv-loop μ-loop
+amount-requires c κs = search needs
+
+cast-steps : tie.Need-cast-steps Inv-loop μ-loop
+cast-steps c = search needs
+
+loop-holds : tie.Need-loop-holds Inv-loop μ-loop
+loop-holds c = (ap (λ (n : ℕ). run n (c .before .args .t1)) (sym (c .amount .ensures)), omega arith, refl, refl, refl, search needs, refl, refl)
+
+sub-todo : tie.Need-sub-todo Inv-loop μ-loop
+sub-todo c = search needs
+
+add-steps : tie.Need-add-steps Inv-loop μ-loop
+add-steps c = search needs
+
+box-at-requires : tie.Need-box-at-requires Inv-loop μ-loop
+box-at-requires c κs = search needs
+
+enum-known-b : tie.Need-enum-known-b Inv-loop μ-loop
+enum-known-b c = search needs
+
+cast-t : tie.Need-cast-t Inv-loop μ-loop
+cast-t c = search needs
+
+cast-i : tie.Need-cast-i Inv-loop μ-loop
+cast-i c = search needs
+
+cast-j : tie.Need-cast-j Inv-loop μ-loop
+cast-j c = search needs
+
+mul-result : tie.Need-mul-result Inv-loop μ-loop
+mul-result c = search needs
+
+element-copy-out-result : tie.Need-element-copy-out-result Inv-loop μ-loop
+element-copy-out-result c = search needs
+
+mul-result-2 : tie.Need-mul-result-2 Inv-loop μ-loop
+mul-result-2 c = search needs
+
+element-copy-out-result-2 : tie.Need-element-copy-out-result-2 Inv-loop μ-loop
+element-copy-out-result-2 c = search needs
+
+result-requires : tie.Need-result-requires Inv-loop μ-loop
+result-requires c κs = search needs
+
+element-copy-out-read-mark : tie.Need-element-copy-out-read-mark Inv-loop μ-loop
+element-copy-out-read-mark c = search needs
+
+element-copy-out-read-mark-2 : tie.Need-element-copy-out-read-mark-2 Inv-loop μ-loop
+element-copy-out-read-mark-2 c = search needs
+
+read-mark-requires : tie.Need-read-mark-requires Inv-loop μ-loop
+read-mark-requires c κs = search needs
+
+element-copy-out-target-mark : tie.Need-element-copy-out-target-mark Inv-loop μ-loop
+element-copy-out-target-mark c = search needs
+
+target-mark-requires : tie.Need-target-mark-requires Inv-loop μ-loop
+target-mark-requires c κs = search needs
+
+mul-self : tie.Need-mul-self Inv-loop μ-loop
+mul-self c = search needs
+
+element-write-self : tie.Need-element-write-self Inv-loop μ-loop
+element-write-self c = search needs
+
+element-write-self-2 : tie.Need-element-write-self-2 Inv-loop μ-loop
+element-write-self-2 c = search needs
+
+enum-known-b-2 : tie.Need-enum-known-b-2 Inv-loop μ-loop
+enum-known-b-2 c = search needs
+
+cast-i-2 : tie.Need-cast-i-2 Inv-loop μ-loop
+cast-i-2 c = search needs
+
+cast-j-2 : tie.Need-cast-j-2 Inv-loop μ-loop
+cast-j-2 c = search needs
+
+element-copy-out-read : tie.Need-element-copy-out-read Inv-loop μ-loop
+element-copy-out-read c = search needs
+
+element-copy-out-read-2 : tie.Need-element-copy-out-read-2 Inv-loop μ-loop
+element-copy-out-read-2 c = search needs
+
+decision-notices-requires : tie.Need-decision-notices-requires Inv-loop μ-loop
+decision-notices-requires c κs = search needs
+
+counter-mark-requires : tie.Need-counter-mark-requires Inv-loop μ-loop
+counter-mark-requires c κs = search needs
+
+mul-compare : tie.Need-mul-compare Inv-loop μ-loop
+mul-compare c = search needs
+
+element-copy-out-compare : tie.Need-element-copy-out-compare Inv-loop μ-loop
+element-copy-out-compare c = search needs
+
+mul-compare-2 : tie.Need-mul-compare-2 Inv-loop μ-loop
+mul-compare-2 c = search needs
+
+element-copy-out-compare-2 : tie.Need-element-copy-out-compare-2 Inv-loop μ-loop
+element-copy-out-compare-2 c = search needs
+
+compare-requires : tie.Need-compare-requires Inv-loop μ-loop
+compare-requires c κs = search needs
+
+way-requires : tie.Need-way-requires Inv-loop μ-loop
+way-requires c κs = search needs
+
+enum-told : tie.Need-enum-told Inv-loop μ-loop
+enum-told c = search needs
+
+element-copy-out-halt-notices : tie.Need-element-copy-out-halt-notices Inv-loop μ-loop
+element-copy-out-halt-notices c = search needs
+
+halt-notices-requires : tie.Need-halt-notices-requires Inv-loop μ-loop
+halt-notices-requires c κs = search needs
+
+element-copy-out-value : tie.Need-element-copy-out-value Inv-loop μ-loop
+element-copy-out-value c = search needs
+
+loop-less : tie.Need-loop-less Inv-loop μ-loop
+loop-less c = search needs
+
+loop-again : tie.Need-loop-again Inv-loop μ-loop
+loop-again c =
+    let l = c .before .before .before .before .before .before .loop in
+    let r = seen (l .self) (l .at) (l .steps) in
+    let q = joined (c .before) in
+    let below : l .self .limit ≡ _ = l .inv .3 in (
+      turned _ (l .todo) _ r (l .inv .0) (under-way (c .before .before .before .before .before)) _ (c .before .before .before .before .before .loop-test .taken)
+          (counted-left r (c .before .match .self) (c .before .match .at) q (omega (arith, c .if3 .left, below))),
+      omega arith,
+      sym (ap (λ (x : Runner). x .state) (q .counted)) ∙ l .inv .2,
+      sym (ap (λ (x : Runner). x .limit) (q .counted)) ∙ l .inv .3,
+      sym (ap (λ (x : Runner). x .mode) (q .counted)) ∙ l .inv .4,
+      omega arith,
+      l .inv .6,
+      l .inv .7,
+    )
+
+cast-self : tie.Need-cast-self Inv-loop μ-loop
+cast-self c =
+    let below = ⊎-elim (λ w. w .1) (λ w. absurd (w .0 (c .before .if4 .taken))) (over (c .before .before)) in
+    search needs
+
+tell-requires : tie.Need-tell-requires Inv-loop μ-loop
+tell-requires c κs = search needs
+
+returns : tie.Need-returns Inv-loop μ-loop
+returns c =
+    advance-came _ _ (c .before .before .loop-test .self) _ _ _ _ _ _ _ refl (over (c .before .before))
+    (λ e. ⊎-elim (λ w. w .2) (λ w. absurd (w .0 .left e)) (c .before .if4 .came))
+    (λ n. ⊎-elim (λ w. absurd (n (w .0 .taken))) (λ w. w .3) (c .before .if4 .came))
+    (c .tell .ensures)
 
 pub advance-spec : {M : Type 1} → statement M
 advance-spec =
-    tie.close (tie.spec refusal-requires returns run-requires cast-t9 returns-2 returns-3)
+    tie.close
+    (tie.spec
+    Inv-loop
+    μ-loop
+    cast-limit
+    amount-requires
+    cast-steps
+    loop-holds
+    sub-todo
+    add-steps
+    box-at-requires
+    enum-known-b
+    cast-t
+    cast-i
+    cast-j
+    mul-result
+    element-copy-out-result
+    mul-result-2
+    element-copy-out-result-2
+    result-requires
+    element-copy-out-read-mark
+    element-copy-out-read-mark-2
+    read-mark-requires
+    element-copy-out-target-mark
+    target-mark-requires
+    mul-self
+    element-write-self
+    element-write-self-2
+    enum-known-b-2
+    cast-i-2
+    cast-j-2
+    element-copy-out-read
+    element-copy-out-read-2
+    decision-notices-requires
+    counter-mark-requires
+    mul-compare
+    element-copy-out-compare
+    mul-compare-2
+    element-copy-out-compare-2
+    compare-requires
+    way-requires
+    enum-told
+    element-copy-out-halt-notices
+    halt-notices-requires
+    element-copy-out-value
+    loop-less
+    loop-again
+    cast-self
+    tell-requires
+    returns)

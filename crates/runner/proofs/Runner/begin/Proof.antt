@@ -40,7 +40,9 @@ enum-told-2 : tie.Need-enum-told-2
 enum-told-2 c = search needs
 
 returns : tie.Need-returns
-returns c = begin-starts _ _ _ _ _ _ _ _ (sym (c .before .before .before .before .before .check .ensures) ∙ c .before .before .before .enum-told .given .1) (c .before .before .first-vars .ensures) (c .before .first-marks .ensures) (c .effective .ensures)
+returns c =
+    rw (c .before .before .before .enum-told .given .1)
+    (begin-starts _ _ _ _ _ _ _ _ (sym (c .before .before .before .before .before .check .ensures) ∙ c .before .before .before .enum-told .given .1) (c .before .before .first-vars .ensures) (c .before .first-marks .ensures) (c .effective .ensures))
 
 returns-2 : tie.Need-returns-2
 returns-2 c =
@@ -58,6 +60,6 @@ begin-spec =
     cast-self
     effective-requires
     cast-self-2
-    returns
     enum-told-2
+    returns
     returns-2)
