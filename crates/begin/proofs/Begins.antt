@@ -1,7 +1,7 @@
 -- What an accepted begin says of its arguments (permitted, under-way), and laws of what a run begins with: the limit, the lengths of the variables
 -- and marks, each of them by its place, and that two begins agree on what has no mark. Assumes nothing.
 use Prim.Native.Nat.{ℕ, zero, suc, _-_, _/_, _^_, _≤_, _<_, min}
-use mathlib.Core.Path.{_≡_, refl, ap, sym, _∙_}
+use mathlib.Core.Path.{_≡_, refl, ap, sym, _∙_, subst}
 use mathlib.Core.Logic.{⊎-elim}
 use mathlib.Core.List.{List, [], _∷_, _++_}
 use mathlib.Core.Bool.{Bool, true, false, cond, not, true≢false}
@@ -106,6 +106,21 @@ withheld-at a (suc k) j l =
 pub marks-at : (a k j : ℕ) → k ≤ 32 → j < k → getD (firstMarks a k) j 0 ≡ withheldMark a j
 unfolding firstMarks
 marks-at a k j f l = getD-zeros (withheldMarks a (min 32 k)) (32 - k) j ∙ withheld-at a (min 32 k) j (omega arith)
+
+-- A run begins with marks of two classes.
+pub marks-class : (a k j : ℕ) → getD (firstMarks a k) j 0 ≤ 1
+unfolding firstMarks withheldMark
+marks-class a k j = subst (λ (x : ℕ). x ≤ 1) (sym (getD-zeros (withheldMarks a (min 32 k)) (32 - k) j)) (on (decLt j (min 32 k)))
+  where
+    one : (b : Bool) → cond b 0 1 ≤ 1
+    one true = omega arith
+    one false = omega arith
+
+    on : Dec (j < min 32 k) → getD (withheldMarks a (min 32 k)) j 0 ≤ 1
+    on (yes l) = subst (λ (x : ℕ). x ≤ 1) (sym (withheld-at a (min 32 k) j l)) (one (allows a j))
+    on (no q) =
+        let past : length (withheldMarks a (min 32 k)) ≤ j = omega (arith, length-withheld a (min 32 k)) in
+        subst (λ (x : ℕ). x ≤ 1) (sym (List·getD-eq-default (withheldMarks a (min 32 k)) 0 past)) (omega arith)
 
 no-mark : (b : Bool) → _≡_ {A = ℕ} (cond b 0 1) 0 → b ≡ true
 no-mark true e = refl

@@ -18,10 +18,11 @@ use Rattle.format.specs.declared.Checked.the-variants as checked
 use Rattle.boxes.proofs.Bools.{and-left, and-right, or-cases, every}
 use Rattle.format.proofs.Accepted.{Accepted, accepted}
 use Rattle.chart.specs.Chart.{joined, boxBlocks, boxesOf, tableOf, boxOf}
-use Rattle.chart.specs.Claims.{ObeysRules, BoxInRange, assigns, decides, halts, StaysInRange}
+use Rattle.chart.specs.Claims.{ObeysRules, ShowsBox, BoxInRange, assigns, decides, halts, StaysInRange}
 use Rattle.chart.proofs.Lists.{length-part, part-part, part-zeros}
 use Rattle.chart.proofs.Joined.{Sized, joined-length, joined-piece}
 use Rattle.chart.proofs.RoundTrip.{box-blocks}
+use Rattle.chart.proofs.Shows.{shows-box}
 
 module _ (f : List ℕ) (h : Header) (e : checkFile f ≡ checked.Accepted h) where
   boxes-sized : (m : ℕ) → m ≤ boxBlocks (length f) → Sized (boxesOf f) 510 m
@@ -80,6 +81,15 @@ module _ (f : List ℕ) (h : Header) (e : checkFile f ≡ checked.Accepted h) wh
 
 pub obeys-rules : ObeysRules
 obeys-rules f h e = (table-long f h e, obeys f h e, zeros-past f h e)
+
+pub shows-the-box : ShowsBox
+unfolding wellFormed
+shows-the-box f h p e l =
+    let a = accepted f h e in
+    let place = box-is-place f h e p (omega (arith, a .some)) in
+    let formed = and-left (eqb (length (boxOf (tableOf f) p)) 10) (assignmentRule (h .inputs) (h .boxes) (boxOf (tableOf f) p) || decisionRule (h .inputs) (h .boxes) (boxOf (tableOf f) p) || haltRule (boxOf (tableOf f) p)) (obeys f h e p l) in
+    let ten : length (boxOf (tableOf f) p) ≡ 10 = eqb-true _ _ formed in
+    rw (shows-box f p h e l) (ap length (sym place) ∙ ten, sym place)
 
 -- The rules, kind by kind.
 readable-below : (k v : ℕ) → k ≤ 16 → readable k v ≡ true → v < 32

@@ -1,15 +1,16 @@
--- What is claimed of the definitions: the file's half of demand 2, and the ranges of the numbers in a loaded chart.
+-- What is claimed of the definitions: the file's half of demand 2, what show a box shows, and the ranges of the numbers in a loaded chart.
 use Prim.Native.Nat.{ℕ, _≤_, _<_}
 use mathlib.Core.Path.{_≡_}
 use mathlib.Core.List.{List, _++_}
 use mathlib.Core.Bool.{true}
 use lib.ListN.{length, drop}
-use Rattle.boxes.specs.Bytes.{at, allZero}
+use Rattle.boxes.specs.Bytes.{at, part, allZero}
 use Rattle.boxes.specs.Box.{wellFormed}
 use Rattle.format.specs.File.{inRange, checkFile}
 use Rattle.format.specs.declared.Header.{Header}
 use Rattle.format.specs.declared.Checked.the-variants.{Accepted}
 use Rattle.chart.specs.Chart.{tableOf, boxOf, fileOf}
+use Rattle.chart.specs.ShowBox.{showBox}
 use Rattle.chart.specs.WriteBack.{fileLength, writeBack, bufferAfter}
 use Rattle.chart.specs.declared.Written.the-variants.{Length}
 
@@ -42,6 +43,14 @@ ObeysRules =
     → (length (tableOf f) ≡ 2040)
     × ((p : ℕ) → p < h .boxes → wellFormed (h .inputs) (h .boxes) (boxOf (tableOf f) p) ≡ true)
     × ((p : ℕ) → h .boxes ≤ p → allZero (boxOf (tableOf f) p) ≡ true)
+
+-- "returns the ten bytes of that box": of an accepted file and a number below n, the part that is shown is the box that the table holds.
+abbrev pub ShowsBox : Type 0
+ShowsBox =
+    (f : List ℕ) (h : Header) (p : ℕ)
+    → checkFile f ≡ Accepted h
+    → p < h .boxes
+    → (length (part f (showBox f p .start) (showBox f p .size)) ≡ 10) × (part f (showBox f p .start) (showBox f p .size) ≡ boxOf (tableOf f) p)
 
 -- The numbers in a header.
 pub record HeaderInRange (h : Header) : Type 0 where

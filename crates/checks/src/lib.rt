@@ -4,18 +4,6 @@ use rounds::fold_told;
 use rounds::least;
 use rounds::loaded;
 
-// At most 16 of the inputs.
-fn own(inputs: &[u32]) -> [u32; 16] {
-    let end = least(inputs.len(), 16);
-    let mut numbers = [0u32; 16];
-    let mut j: usize = 0;
-    while j < end {
-        numbers[j] = inputs[j];
-        j += 1;
-    }
-    numbers
-}
-
 // Health checks: begin, advance to the end, answer. Input 0 is one more each round.
 #[no_mangle]
 pub extern "C" fn flow_checks(
@@ -27,7 +15,7 @@ pub extern "C" fn flow_checks(
     rounds: u32,
 ) -> u64 {
     let count = inputs.len();
-    let mut numbers = own(inputs);
+    let mut numbers = begin::first_vars(inputs);
     let mut runner = loaded(file);
     let mut sum: u64 = 0;
     let mut left = rounds;

@@ -12,3 +12,4 @@ pub mod Demand3
 pub mod RunLaws
 pub mod ChartLaws
 pub mod Replies
+pub mod OneFile

@@ -1,13 +1,13 @@
 -- What holds of every reachable runner: a chart that is held came out of a file, a run under way is in range, and a runner without one is at
 -- rest. A new runner has it, a box keeps it, and so does every call. Assumes nothing.
-use Prim.Native.Nat.{ℕ, zero, suc, _+_, _≤_, _<_}
+use Prim.Native.Nat.{ℕ, zero, suc, _+_, _%_, _≤_, _<_}
 use mathlib.Core.Path.{_≡_, refl, ap, sym, _∙_, subst}
-use mathlib.Core.List.{List}
+use mathlib.Core.List.{List, [], _∷_, map}
 use mathlib.Core.Bool.{Bool, true, false, cond, true≢false, false≢true}
 use native.Mathlib.Omega.{arith}
-use lib.Bits.{bitOr}
+use lib.Bits.{bitOr, or-lt}
 use lib.Dec.{leb}
-use lib.ListN.{length, length-set}
+use lib.ListN.{length, getD, length-set}
 use borrow.Author.Tests.{eqb-true, leb-false}
 use Rattle.format.specs.File.{headerOf, inRange, checkFile}
 use Rattle.format.specs.declared.Header.{Header}
@@ -18,20 +18,21 @@ use Rattle.format.proofs.Ranges.{in-range}
 use Rattle.chart.specs.Chart.{tableOf, boxOf}
 use Rattle.chart.specs.Claims.{BoxInRange}
 use Rattle.chart.proofs.Rules.{stays-in-range}
-use Rattle.rules.specs.Decode.{boxAt}
+use Rattle.rules.specs.Decode.{boxAt, readBy}
 use Rattle.rules.specs.Operation.{compares}
-use Rattle.rules.specs.Marks.{Mode, modeOf, decisionNotices, counterMark}
+use Rattle.rules.specs.Marks.{Mode, bare, surveillance, highWater, modeOf, union, targetMark, decisionNotices, counterMark}
 use Rattle.rules.specs.declared.decode.FlowBox.{FlowBox}
 use Rattle.begin.specs.Begin.{effective}
 use Rattle.begin.specs.declared.Verdict.{Verdict}
 use Rattle.begin.specs.declared.Verdict.the-variants.{Done, Refused}
-use Rattle.begin.proofs.Begins.{permitted, effective-positive, effective-fits, length-vars, length-marks}
+use Rattle.begin.proofs.Begins.{permitted, effective-positive, effective-fits, length-vars, length-marks, marks-class}
 use Rattle.runner.specs.declared.Runner.{Runner}
 use Rattle.runner.specs.State.{headerIn, isHeld, isRunning, isEnded, Ending, valued, notice, spent, endingIn, idle, newRunner, endedWith, dropped}
 use Rattle.runner.specs.Step.{entry, stop, go, act, moved, goesOn, settle, boxRun, step, run}
 use Rattle.runner.specs.Calls.{Call, load, begin, advance, answer, abandon, writeBack, fileVerdict, check, started, after, carried, call}
 use Rattle.claims.specs.Lists.{Reached, fresh, then}
 use Rattle.claims.specs.Charts.{UnderWay}
+use Rattle.claims.proofs.Branches.{set-each}
 use Rattle.claims.proofs.Carried.{not-done}
 use Rattle.claims.proofs.Decoded.{GoesBelow, assign-below, decide-below, halt-below, goes-below}
 
@@ -74,29 +75,55 @@ running-sound r s f u =
       rests = λ e q. absurd (true≢false (rw s at e));
     }
 
+-- The marks of two classes stay so.
+or-class : (a b : ℕ) → a ≤ 1 → b ≤ 1 → bitOr a b ≤ 1
+or-class a b ha hb = let l = or-lt 1 a b (omega arith) (omega arith) in omega arith
+
+module _ (marks : List ℕ) (two : (v : ℕ) → getD marks v 0 ≤ 1) where
+  union-class : (vs : List ℕ) → union (map (entry marks) vs) ≤ 1
+  unfolding union
+  union-class [] = omega arith
+  union-class (v ∷ vs) = or-class (entry marks v) (union (map (entry marks) vs)) (two (v % 32)) (union-class vs)
+
+  target-class : (m : Mode) (t : ℕ) (vs : List ℕ) → targetMark m (entry marks t) (union (map (entry marks) vs)) ≤ 1
+  unfolding targetMark
+  target-class bare t vs = two (t % 32)
+  target-class surveillance t vs = union-class vs
+  target-class highWater t vs = or-class _ _ (two (t % 32)) (union-class vs)
+
+  counter-class : (m : Mode) (counter i j : ℕ) → counter ≤ 1 → counterMark m counter (bitOr (entry marks i) (entry marks j)) ≤ 1
+  unfolding counterMark
+  counter-class bare counter i j h = h
+  counter-class surveillance counter i j h = h
+  counter-class highWater counter i j h = or-class _ _ h (or-class _ _ (two (i % 32)) (two (j % 32)))
+
 -- One box.
 module _ (r : Runner) (s : r .state ≡ 1) (f : From (headerIn r) (r .table)) (u : UnderWay r) where
-  goes-sound : (vars marks : List ℕ) (counter next : ℕ) → length vars ≡ 32 → length marks ≡ 32 → next < r .boxes → Sound (goesOn r vars marks counter next)
+  goes-sound : (vars marks : List ℕ) (counter next : ℕ) → length vars ≡ 32 → length marks ≡ 32 → ((v : ℕ) → getD marks v 0 ≤ 1) → counter ≤ 1
+      → next < r .boxes → Sound (goesOn r vars marks counter next)
   unfolding goesOn
-  goes-sound vars marks counter next lv lm b = on (leb (r .limit) (r .steps + 1)) refl
+  goes-sound vars marks counter next lv lm cm cc′ b = on (leb (r .limit) (r .steps + 1)) refl
     where
       on : (q : Bool) → leb (r .limit) (r .steps + 1) ≡ q → Sound (cond q (endedWith spent (r .steps + 1) r) (moved r vars marks counter next))
       on true e = ended-sound spent _ r f (u .held)
       on false e =
           running-sound (moved r vars marks counter next) s f
-          (record { held = u .held; at = b; mode = u .mode; below = leb-false _ _ e; limit = u .limit; forgot = u .forgot; vars = lv; marks = lm })
+          (record { held = u .held; at = b; mode = u .mode; below = leb-false _ _ e; limit = u .limit; forgot = u .forgot; vars = lv; marks = lm; classes = cm; counter = cc′ })
 
   settle-sound : (m : Mode) (b : FlowBox) → GoesBelow (r .boxes) b → Sound (settle (act m b (r .vars) (r .marks) (r .counter)) r)
   unfolding settle act
-  settle-sound m b (assign-below l) =
-      goes-sound _ _ _ _ (simp length-set (u .vars)) (simp length-set (u .marks)) l
+  settle-sound m b (assign-below {t = t} {op = op} {i = i} {j = j} l) =
+      let mark = targetMark m (entry (r .marks) t) (union (map (entry (r .marks)) (readBy op i j))) in
+      goes-sound _ _ _ _ (simp length-set (u .vars)) (simp length-set (u .marks))
+      (set-each (λ x y z. x ≤ 1) (r .marks) (r .marks) (r .marks) refl refl (u .classes) (t % 32) mark mark mark (target-class (r .marks) (u .classes) m t (readBy op i j)))
+      (u .counter) l
   settle-sound m b (decide-below {c = c} {i = i} {j = j} {next = next} {other = other} l k) =
       on (decisionNotices m (bitOr (entry (r .marks) i) (entry (r .marks) j))) (compares c (entry (r .vars) i) (entry (r .vars) j))
     where
       on : (n h : Bool) → Sound (settle (cond n (stop notice) (go (cond h next other) (counterMark m (r .counter) (bitOr (entry (r .marks) i) (entry (r .marks) j))))) r)
       on true h = ended-sound notice _ r f (u .held)
-      on false true = goes-sound _ _ _ _ (u .vars) (u .marks) l
-      on false false = goes-sound _ _ _ _ (u .vars) (u .marks) k
+      on false true = goes-sound _ _ _ _ (u .vars) (u .marks) (u .classes) (counter-class (r .marks) (u .classes) m (r .counter) i j (u .counter)) l
+      on false false = goes-sound _ _ _ _ (u .vars) (u .marks) (u .classes) (counter-class (r .marks) (u .classes) m (r .counter) i j (u .counter)) k
   settle-sound m b halt-below = ended-sound _ _ r f (u .held)
 
   box-sound : Sound (boxRun r)
@@ -149,6 +176,8 @@ start-sound mode inputs allowed limit r e h =
       forgot = (refl, refl);
       vars = length-vars inputs many;
       marks = length-marks allowed (r .inputs) (omega arith);
+      classes = marks-class allowed (r .inputs);
+      counter = omega arith;
     })
 
 carried-sound : (v : Verdict) (c : Call) (r : Runner) → check c r ≡ v → Sound r → Sound (carried v c r .next)

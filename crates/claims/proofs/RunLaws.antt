@@ -11,11 +11,11 @@ use Rattle.begin.specs.declared.Verdict.the-variants.{Done, Refused}
 use Rattle.begin.proofs.Begins.{effective-positive}
 use Rattle.runner.specs.declared.Runner.{Runner}
 use Rattle.runner.specs.State.{isRunning}
-use Rattle.runner.specs.Step.{run}
+use Rattle.runner.specs.Step.{act, run}
 use Rattle.runner.specs.Calls.{Call, load, begin, advance, answer, abandon, writeBack, running, ended, refused, Told, Outcome, lent, check, says, leaves, started, after, carried, call}
 use Rattle.runner.proofs.Runs.{run-add}
 use Rattle.claims.specs.Lists.{Accepted, tells, AllSuch}
-use Rattle.claims.specs.Runs.{RefusalChangesNothing, AdvancesJoin, CountsBoxes, LimitEnds, stepsTold, WithinLimit, Cleared}
+use Rattle.claims.specs.Runs.{NoOperationStops, RefusalChangesNothing, AdvancesJoin, CountsBoxes, LimitEnds, stepsTold, WithinLimit, Cleared}
 use Rattle.claims.proofs.Branches.{clash}
 use Rattle.claims.proofs.Carried.{call-done}
 use Rattle.claims.proofs.Reachable.{sound}
@@ -36,6 +36,10 @@ not-refused (advance m) r n d e = on (isRunning (run m r)) e
 not-refused answer r n d e = clash cc
 not-refused abandon r n d e = clash cc
 not-refused (writeBack b) r n d e = clash cc
+
+pub no-operation-stops : NoOperationStops
+unfolding act
+no-operation-stops mode t op i j next k vars marks counter e d = clash cc
 
 pub refusal-changes-nothing : RefusalChangesNothing
 unfolding call carried

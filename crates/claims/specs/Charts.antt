@@ -3,7 +3,7 @@ use Prim.Native.Nat.{ℕ, _≤_, _<_}
 use mathlib.Core.Path.{_≡_}
 use mathlib.Core.List.{List, [], _∷_, _++_}
 use mathlib.Core.Bool.{true, false}
-use lib.ListN.{length, take, drop}
+use lib.ListN.{length, getD, take, drop}
 use Rattle.boxes.specs.Bytes.{allZero}
 use Rattle.boxes.specs.Box.{wellFormed}
 use Rattle.chart.specs.Chart.{boxOf}
@@ -25,7 +25,7 @@ abbrev pub HeldObeys : Type 0
 HeldObeys = (r : Runner) → Reached r → isHeld r ≡ true → Obeys r
 
 -- A run under way is on a held chart, at one of its boxes, in a mode that there is, below a limit that can be set, with 32 variables and marks,
--- and no earlier ending. So the answers that the definitions give elsewhere are never met.
+-- and no earlier ending. So the answers that the definitions give elsewhere are never met. "The classes of the high-water mark are two": a mark is 0 or 1.
 pub record UnderWay (r : Runner) : Type 0 where
   pub held : isHeld r ≡ true
   pub at : r .at < r .boxes
@@ -35,6 +35,8 @@ pub record UnderWay (r : Runner) : Type 0 where
   pub forgot : (r .count ≡ 0) × (r .value ≡ 0)
   pub vars : length (r .vars) ≡ 32
   pub marks : length (r .marks) ≡ 32
+  pub classes : (v : ℕ) → getD (r .marks) v 0 ≤ 1
+  pub counter : r .counter ≤ 1
 
 abbrev pub RunsInRange : Type 0
 RunsInRange = (r : Runner) → Reached r → isRunning r ≡ true → UnderWay r

@@ -1,6 +1,7 @@
--- What is claimed of the six calls: lists of calls, demand 3, the laws of a run, of refusals and of held charts, and that the replies are distinct.
+-- What is claimed of the six calls: lists of calls, demand 3, the laws of a run, of refusals and of held charts, that the replies are distinct, and demand 3 of one file.
 pub mod Lists
 pub mod Demand3
 pub mod Runs
 pub mod Charts
 pub mod Distinct
+pub mod OneFile

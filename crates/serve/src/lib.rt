@@ -16,7 +16,7 @@ struct Session {
 }
 
 // Reads chart.bin to the front of a buffer, and answers how many bytes: none where it cannot be read.
-fn read_chart(buf: &mut [u8]) -> usize
+pub fn read_chart(buf: &mut [u8]) -> usize
     ensures { λ r. ⌜ Counts r (now (buf .exit)) ⌝ }
 {
     let fd = os::open_read(b"chart.bin");

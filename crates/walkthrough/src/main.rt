@@ -1,7 +1,6 @@
 // Follows the chart of docs/WALKTHROUGH.md from its file to its answers and back to a file, and prints each stage.
 use runner::Runner;
 use told::Told;
-ghost use Rattle.io.specs.Counts.{Counts};
 
 // Input 0 of every run: the tenant's own probe took so many milliseconds.
 const LATENCY: u32 = 700;
@@ -80,19 +79,6 @@ fn part(bytes: &[u8], from: usize, to: usize) -> &[u8] {
         }
     }
     &bytes[0..0]
-}
-
-// Reads chart.bin to the front of a buffer, and answers how many bytes.
-fn read_chart(buf: &mut [u8]) -> usize
-    ensures { λ r. ⌜ Counts r (now (buf .exit)) ⌝ }
-{
-    let fd = os::open_read(b"chart.bin");
-    if fd < 0 {
-        return 0;
-    }
-    let length = io::read_full(fd, buf);
-    libc::close(fd);
-    length
 }
 
 // The check of a block: as it is summed, and as the block holds it.
@@ -211,7 +197,7 @@ fn write_back(runner: Runner, file: &[u8]) {
 
 fn main() {
     let mut space = [0u8; 2561];
-    let length = read_chart(&mut space);
+    let length = serve::read_chart(&mut space);
     let file = &space[..length];
     print_file(file);
     print_allowed();

@@ -7,13 +7,13 @@ use Rattle.checks.proofs.flow_checks.Statement.{statement}
 use Rattle.checks.proofs.flow_checks.Tie as tie
 
 abbrev Inv-loop : tie.InvT-loop
-Inv-loop file mode inputs allowed limit rounds count numbers₀ runner₀ sum₀ left₀ numbers runner sum left = length numbers ≡ 16
+Inv-loop file mode inputs allowed limit rounds count numbers₀ runner₀ sum₀ left₀ numbers runner sum left = length numbers ≡ 32
 
 abbrev μ-loop : tie.MeasureT-loop
 μ-loop file mode inputs allowed limit rounds count numbers₀ runner₀ sum₀ left₀ numbers runner sum left = left
 
-own-requires : tie.Need-own-requires Inv-loop μ-loop
-own-requires c κs = search needs
+first-vars-requires : tie.Need-first-vars-requires Inv-loop μ-loop
+first-vars-requires c κs = search needs
 
 loaded-requires : tie.Need-loaded-requires Inv-loop μ-loop
 loaded-requires c κs = search needs
@@ -72,7 +72,7 @@ flow-checks-spec =
     (tie.spec
     Inv-loop
     μ-loop
-    own-requires
+    first-vars-requires
     loaded-requires
     loop-holds
     sub-left

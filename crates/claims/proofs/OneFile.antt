@@ -1,0 +1,33 @@
+-- The callers of one file: what each writes back is that file, so they hold one chart, and demand 3 says the rest. Assumes nothing.
+use Prim.Native.Nat.{ℕ, _≤_}
+use mathlib.Core.Path.{refl, sym, _∙_}
+use mathlib.Core.List.{List, [], _∷_}
+use native.Mathlib.Omega.{arith}
+use lib.ListN.{length}
+use Rattle.format.specs.File.{headerOf}
+use Rattle.format.proofs.Accepted.{accepted}
+use Rattle.begin.specs.Begin.{effective}
+use Rattle.runner.specs.declared.Runner.{Runner}
+use Rattle.runner.specs.Calls.{Call, load}
+use Rattle.claims.specs.Lists.{Reached, then, Accepted, final}
+use Rattle.claims.specs.OneFile.{OneFile}
+use Rattle.claims.proofs.Reachable.{accepted-file}
+use Rattle.claims.proofs.Secrecy.{noninterference}
+use Rattle.claims.proofs.ChartLaws.{loaded-is-written}
+
+reached-final : (cs : List Call) {r : Runner} → Reached r → Reached (final cs r)
+unfolding final
+reached-final [] h = h
+reached-final (c ∷ cs) h = reached-final cs (then h c)
+
+file-fits : (file : List ℕ) (r : Runner) → Accepted (load file) r → length file ≤ 2560
+file-fits file r a = let f = accepted file (headerOf file) (accepted-file file r a) in omega (arith, f .long, f .fits)
+
+pub one-file : OneFile
+unfolding effective
+one-file r r′ file past past′ g g′ a a′ n n′ inputs inputs′ allowed alike b b′ cs =
+    noninterference _ _ (reached-final past (then g (load file))) (reached-final past′ (then g′ (load file)))
+    (λ buffer room.
+    let long : length file ≤ length buffer = omega (arith, file-fits file r a) in
+    loaded-is-written r file buffer past a n long ∙ sym (loaded-is-written r′ file buffer past′ a′ n′ long))
+    inputs inputs′ allowed 0 4096 alike refl b b′ cs
