@@ -18,7 +18,7 @@ use Rattle.format.specs.declared.Checked.the-variants as checked
 use Rattle.boxes.proofs.Bools.{and-left, and-right, or-cases, every}
 use Rattle.format.proofs.Accepted.{Accepted, accepted}
 use Rattle.chart.specs.Chart.{joined, boxBlocks, boxesOf, tableOf, boxOf}
-use Rattle.chart.specs.Claims.{ObeysRules, ShowsBox, BoxInRange, assigns, decides, halts, StaysInRange}
+use Rattle.chart.specs.Claims.{ObeysRules, ShowsTheBox, BoxInRange, assigns, decides, halts, StaysInRange}
 use Rattle.chart.proofs.Lists.{length-part, part-part, part-zeros}
 use Rattle.chart.proofs.Joined.{Sized, joined-length, joined-piece}
 use Rattle.chart.proofs.RoundTrip.{box-blocks}
@@ -82,7 +82,7 @@ module _ (f : List ℕ) (h : Header) (e : checkFile f ≡ checked.Accepted h) wh
 pub obeys-rules : ObeysRules
 obeys-rules f h e = (table-long f h e, obeys f h e, zeros-past f h e)
 
-pub shows-the-box : ShowsBox
+pub shows-the-box : ShowsTheBox
 unfolding wellFormed
 shows-the-box f h p e l =
     let a = accepted f h e in

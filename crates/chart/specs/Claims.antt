@@ -45,8 +45,8 @@ ObeysRules =
     × ((p : ℕ) → h .boxes ≤ p → allZero (boxOf (tableOf f) p) ≡ true)
 
 -- "returns the ten bytes of that box": of an accepted file and a number below n, the part that is shown is the box that the table holds.
-abbrev pub ShowsBox : Type 0
-ShowsBox =
+abbrev pub ShowsTheBox : Type 0
+ShowsTheBox =
     (f : List ℕ) (h : Header) (p : ℕ)
     → checkFile f ≡ Accepted h
     → p < h .boxes
