@@ -1,12 +1,12 @@
 // Random calls in random order with random arguments, of which some are to be refused.
-use crate::files;
 use crate::pair::Pair;
-use crate::random;
-use crate::random::below;
-use crate::random::one_in;
+use samples::files;
+use samples::random;
+use samples::random::below;
+use samples::random::one_in;
 
 // The first inputs of some, or all of them where there are fewer.
-fn first_inputs(inputs: &[u32; 20], count: usize) -> &[u32] {
+pub fn first_inputs(inputs: &[u32; 20], count: usize) -> &[u32] {
     let all: &[u32] = inputs;
     if count <= all.len() {
         return &all[0..count];

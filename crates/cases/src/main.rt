@@ -1,21 +1,19 @@
 // Runs the cases of document 01 that are not marked (P), and random lists of calls, on the runner and on the second interpreter. It stops at
 // the first difference, and else says what was reached.
-mod box_rules;
 mod calls;
-mod charts;
+mod commands;
 mod counts;
-mod damage;
-mod files;
-mod fixed;
-mod orders;
+mod kinds;
 mod pair;
-mod random;
 mod report;
-mod told;
+mod text;
 
-use files::File;
 use pair::Pair;
-use random::one_in;
+use samples::charts;
+use samples::damage;
+use samples::files;
+use samples::files::File;
+use samples::random::one_in;
 
 // Where the random numbers start.
 const SEED: u64 = 88172645463325252;
@@ -48,21 +46,25 @@ fn random_cases(file: &mut File) -> Pair {
     p
 }
 
+// Room for the fixed cases.
+type Text = [u8; 16384];
+
+// The fixed cases, which standard input has.
+fn fixed_cases(file: &mut File) -> bool {
+    let mut text: Text = [0; 16384];
+    let length = io::read_full(0, &mut text);
+    commands::run(text::part(&text, 0, length), file)
+}
+
 fn main() {
     let mut file: File = [0; 3072];
-    if !fixed::run(&mut file) {
-        return;
-    }
-    if !box_rules::run(&mut file) {
-        return;
-    }
-    if !orders::run(&mut file) {
+    if !fixed_cases(&mut file) {
         return;
     }
     let p = random_cases(&mut file);
     if p.same {
         let counts = p.counts;
-        report::totals(counts);
+        report::totals(&counts);
         io::write_all(1, b"no difference\n");
     }
 }
