@@ -1,11 +1,11 @@
 // The commands of the fixed cases, one to a line: they change the chart file, make a call, or say what the last call is to tell. The file
 // `stdin` has the list of them.
-use crate::calls::first_inputs;
 use crate::pair;
 use crate::pair::Pair;
 use crate::text::number;
 use crate::text::part;
 use crate::text::piece;
+use samples::arguments::first_inputs;
 use samples::files;
 use samples::files::File;
 use samples::files::byte;
@@ -93,6 +93,12 @@ fn expect(pair: Pair, line: &[u8]) -> Pair {
     pair.expect(piece(line, 1, b'"'), told)
 }
 
+// A line that is no command counts as a difference.
+fn no_command(pair: Pair, line: &[u8]) -> Pair {
+    let none = told::make(0, 0, 0);
+    pair.differ(line, none, none)
+}
+
 fn call(pair: Pair, line: &[u8], file: &File) -> Pair {
     let command = letters(line);
     let first = number(line, 1);
@@ -107,7 +113,7 @@ fn call(pair: Pair, line: &[u8], file: &File) -> Pair {
         SHOW => pair.show(front(file, first as usize), second),
         NEW => pair.renew(),
         EXPECT => expect(pair, line),
-        _ => pair.unknown(line),
+        _ => no_command(pair, line),
     }
 }
 

@@ -9,10 +9,9 @@ mod report;
 mod text;
 
 use pair::Pair;
-use samples::charts;
 use samples::damage;
-use samples::files;
 use samples::files::File;
+use samples::files::front;
 use samples::random::one_in;
 
 // Where the random numbers start.
@@ -21,20 +20,16 @@ const SEED: u64 = 88172645463325252;
 // The random cases are numbered from 1, below this.
 const CASES: u32 = 100000;
 
-// A chart's file, one time in three damaged, and a list of calls with it. The pair is often the one that the case before left.
+// A chart's file and a list of calls with it. The pair is often the one that the case before left.
 fn random_case(pair: Pair, state: &mut u64, file: &mut File) -> Pair {
     if !pair.same {
         return pair;
     }
-    let shape = charts::make(state, file);
-    let mut length = files::length_of(shape.boxes);
-    if one_in(state, 3) {
-        length = damage::make(state, file, shape);
-    }
+    let length = damage::draw(state, file);
     if one_in(state, 8) {
-        return calls::list(pair.renew(), state, files::front(file, length));
+        return calls::list(pair.renew(), state, front(file, length));
     }
-    calls::list(pair, state, files::front(file, length))
+    calls::list(pair, state, front(file, length))
 }
 
 fn random_cases(file: &mut File) -> Pair {

@@ -95,7 +95,7 @@ impl Pair {
     }
 
     // A difference, which is told once.
-    fn differ(mut self, what: &[u8], first: Told, second: Told) -> Pair {
+    pub fn differ(mut self, what: &[u8], first: Told, second: Told) -> Pair {
         if self.same {
             report::difference(what, self.case, self.calls, first, second);
         }
@@ -276,13 +276,6 @@ impl Pair {
             return self;
         }
         report::unexpected(name, expected, told);
-        self.same = false;
-        self
-    }
-
-    // A line of the fixed cases that is no command.
-    pub fn unknown(mut self, line: &[u8]) -> Pair {
-        report::unknown(line);
         self.same = false;
         self
     }

@@ -53,12 +53,6 @@ pub fn unexpected(name: &[u8], expected: Told, t: Told) {
     case(b"  told", t);
 }
 
-pub fn unknown(line: &[u8]) {
-    say(b"no command: ");
-    say(line);
-    say(b"\n");
-}
-
 // A difference at a call of a random case; the fixed cases are case 0.
 pub fn difference(what: &[u8], number: u32, call: u32, first: Told, second: Told) {
     say(b"difference: ");

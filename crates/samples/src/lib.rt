@@ -1,4 +1,5 @@
-// Chart files for the tests: random charts that obey the rules, and damage to their files.
+// What the tests draw: random charts that obey the rules, damage to their files, and arguments of calls.
+pub mod arguments;
 pub mod charts;
 pub mod damage;
 pub mod files;
