@@ -43,6 +43,7 @@ fn letters(line: &[u8]) -> u32 {
     256 * byte(line, 0) + byte(line, 1)
 }
 
+// Empty, or starting with #, which is 35.
 fn is_comment(line: &[u8]) -> bool {
     (byte(line, 0) == 0) | (byte(line, 0) == 35)
 }
@@ -117,7 +118,7 @@ fn call(pair: Pair, line: &[u8], file: &File) -> Pair {
     }
 }
 
-// Up to the first difference; a line that is empty or starts with # is left out.
+// Up to the first difference; comments are left out.
 fn command(pair: Pair, line: &[u8], file: &mut File) -> Pair {
     if !pair.same | is_comment(line) {
         return pair;

@@ -6,7 +6,7 @@ use told::Told;
 // Runs begun, by mode.
 pub const BEGUN: u32 = 25;
 
-// Runs ended, by mode: with a value, a notice, spent.
+// Runs ended with a value, by mode; then with a notice, and spent.
 pub const ENDED: u32 = 28;
 
 pub const DROPPED: u32 = 37;

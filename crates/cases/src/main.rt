@@ -1,5 +1,5 @@
-// Runs the cases of document 01 that are not marked (P), and random lists of calls, on the runner and on the second interpreter. It stops at
-// the first difference, and else says what was reached.
+// Runs the cases of document 01 that are not marked (P), which standard input has, and random lists of calls, on the runner and on the second
+// interpreter. It stops at the first difference, and else says what was reached.
 mod calls;
 mod commands;
 mod counts;
@@ -41,13 +41,14 @@ fn random_cases(file: &mut File) -> Pair {
     p
 }
 
-// Room for the fixed cases.
-type Text = [u8; 16384];
-
-// The fixed cases, which standard input has.
+// The cases of standard input, which has room for fewer than 16,384 bytes.
 fn fixed_cases(file: &mut File) -> bool {
-    let mut text: Text = [0; 16384];
+    let mut text = [0u8; 16384];
     let length = io::read_full(0, &mut text);
+    if length == 16384 {
+        io::write_all(1, b"standard input is too long\n");
+        return false;
+    }
     commands::run(text::part(&text, 0, length), file)
 }
 

@@ -31,12 +31,20 @@ fn fill(text: &[u8], numbers: &[u64]) {
     say(part(text, start, text.len()));
 }
 
-// What a call told, in the words of the run program: a text for each kind.
+// What a call told, in the words of the run program: a line of `texts` for each kind.
 fn print_told(t: Told) {
-    let texts =
-        b"done/chart inputs % boxes %/running steps %/ended steps %/value % steps %/notice steps %/spent steps %/refused % detail %/written %/shown bytes % kind %/";
+    let texts = b"done
+chart inputs % boxes %
+running steps %
+ended steps %
+value % steps %
+notice steps %
+spent steps %
+refused % detail %
+written %
+shown bytes % kind %";
     let numbers = [t.first, t.second as u64];
-    fill(piece(texts, t.kind, b'/'), &numbers);
+    fill(piece(texts, t.kind, b'\n'), &numbers);
 }
 
 pub fn case(name: &[u8], t: Told) {
