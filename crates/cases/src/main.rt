@@ -1,21 +1,18 @@
-// Runs the cases of document 01 that are not marked (P), and random lists of calls, on the runner and on the second interpreter. It stops at
-// the first difference, and else says what was reached.
-mod box_rules;
+// Runs the cases of document 01 that are not marked (P), which standard input has, and random lists of calls, on the runner and on the second
+// interpreter. It stops at the first difference, and else says what was reached.
 mod calls;
-mod charts;
+mod commands;
 mod counts;
-mod damage;
-mod files;
-mod fixed;
-mod orders;
+mod kinds;
 mod pair;
-mod random;
 mod report;
-mod told;
+mod text;
 
-use files::File;
 use pair::Pair;
-use random::one_in;
+use samples::damage;
+use samples::files::File;
+use samples::files::front;
+use samples::random::one_in;
 
 // Where the random numbers start.
 const SEED: u64 = 88172645463325252;
@@ -23,20 +20,16 @@ const SEED: u64 = 88172645463325252;
 // The random cases are numbered from 1, below this.
 const CASES: u32 = 100000;
 
-// A chart's file, one time in three damaged, and a list of calls with it. The pair is often the one that the case before left.
+// A chart's file and a list of calls with it. The pair is often the one that the case before left.
 fn random_case(pair: Pair, state: &mut u64, file: &mut File) -> Pair {
     if !pair.same {
         return pair;
     }
-    let shape = charts::make(state, file);
-    let mut length = files::length_of(shape.boxes);
-    if one_in(state, 3) {
-        length = damage::make(state, file, shape);
-    }
+    let length = damage::draw(state, file);
     if one_in(state, 8) {
-        return calls::list(pair.renew(), state, files::front(file, length));
+        return calls::list(pair.renew(), state, front(file, length));
     }
-    calls::list(pair, state, files::front(file, length))
+    calls::list(pair, state, front(file, length))
 }
 
 fn random_cases(file: &mut File) -> Pair {
@@ -48,21 +41,26 @@ fn random_cases(file: &mut File) -> Pair {
     p
 }
 
+// The cases of standard input, which has room for fewer than 16,384 bytes.
+fn fixed_cases(file: &mut File) -> bool {
+    let mut text = [0u8; 16384];
+    let length = io::read_full(0, &mut text);
+    if length == 16384 {
+        io::write_all(1, b"standard input is too long\n");
+        return false;
+    }
+    commands::run(text::part(&text, 0, length), file)
+}
+
 fn main() {
     let mut file: File = [0; 3072];
-    if !fixed::run(&mut file) {
-        return;
-    }
-    if !box_rules::run(&mut file) {
-        return;
-    }
-    if !orders::run(&mut file) {
+    if !fixed_cases(&mut file) {
         return;
     }
     let p = random_cases(&mut file);
     if p.same {
         let counts = p.counts;
-        report::totals(counts);
+        report::totals(&counts);
         io::write_all(1, b"no difference\n");
     }
 }

@@ -1,21 +1,20 @@
 // The runner and the model, which is the second interpreter's, side by side: each call goes to both with the same arguments, what they tell is
 // compared, and what was reached is counted.
 use crate::counts;
-use crate::files::byte;
+use crate::kinds;
 use crate::report;
-use crate::told;
 use runner::Runner;
+use samples::files::byte;
 use second::Model;
-use second::Told;
+use told::Told;
 
-// `first` and `second` are what the last call told: the runner, and the model. `whole` is the answer of a copy of the model that was advanced
-// at once by the whole limit of the last run. `inputs` and `boxes` are those of the chart held, `mode` that of the last run. `same` becomes
-// false at the first difference; `case` and `calls` say where that is.
+// `told` is what the last call told, and `whole` the answer of a copy of the model that was advanced at once by the whole limit of the last
+// run. `inputs` and `boxes` are those of the chart held, `mode` that of the last run. `same` becomes false at the first difference; `case` and
+// `calls` say where that is.
 pub struct Pair {
     runner: Runner,
     model: Model,
-    pub first: Told,
-    pub second: Told,
+    told: Told,
     whole: Told,
     pub inputs: u32,
     pub boxes: u32,
@@ -27,12 +26,12 @@ pub struct Pair {
 }
 
 pub fn new() -> Pair {
+    let told = told::make(kinds::DONE, 0, 0);
     Pair {
         runner: Runner::new(),
         model: Model::new(),
-        first: told::make(told::DONE, 0, 0),
-        second: told::make(told::DONE, 0, 0),
-        whole: told::make(told::DONE, 0, 0),
+        told,
+        whole: told,
         inputs: 0,
         boxes: 0,
         mode: 0,
@@ -58,6 +57,14 @@ fn same_part(part: &[u8], file: &[u8], at: usize) -> bool {
     check::same(part, &file[at..end])
 }
 
+// What the model tells of a box shown: where its ten bytes start, or 0.
+fn shown(file: &[u8], at: usize) -> Told {
+    if at == 0 {
+        return told::make(kinds::SHOWN, 0, 0);
+    }
+    told::make(kinds::SHOWN, 10, byte(file, at))
+}
+
 fn same_buffers(one: &[u8; 2640], two: &[u8; 2640]) -> bool {
     check::same(one, two)
 }
@@ -81,19 +88,14 @@ impl Pair {
         self
     }
 
-    fn count(mut self, at: usize) -> Pair {
-        if at < 64 {
-            self.counts[at] = std::num::wrapping_add_u64(self.counts[at], 1);
-        }
+    fn count(mut self, place: u32) -> Pair {
+        let at = (place % 64) as usize;
+        self.counts[at] = std::num::wrapping_add_u64(self.counts[at], 1);
         self
     }
 
-    fn count_file(self, length: usize) -> Pair {
-        self.count(counts::LOADED - 2 + length / 512)
-    }
-
     // A difference, which is told once.
-    fn differ(mut self, what: &[u8], first: Told, second: Told) -> Pair {
+    pub fn differ(mut self, what: &[u8], first: Told, second: Told) -> Pair {
         if self.same {
             report::difference(what, self.case, self.calls, first, second);
         }
@@ -101,18 +103,15 @@ impl Pair {
         self
     }
 
-    // What both told is compared and kept, and a refusal counted.
-    fn settle(mut self, what: &[u8], first: Told, second: Told) -> Pair {
-        self.first = first;
-        self.second = second;
+    // What both told is compared, kept and counted; of a call that is just done, at `done`.
+    fn settle(mut self, what: &[u8], first: Told, model: second::Told, done: u32) -> Pair {
+        let second = kinds::of_model(model);
+        self.told = first;
         self.calls = std::num::wrapping_add_u32(self.calls, 1);
-        if !told::same(first, second) {
+        if !kinds::same(first, second) {
             return self.differ(what, first, second);
         }
-        if first.kind == told::REFUSED {
-            return self.count(first.first as usize);
-        }
-        self
+        self.count(counts::place(first, done))
     }
 
     pub fn load(mut self, file: &[u8]) -> Pair {
@@ -125,14 +124,17 @@ impl Pair {
         let t = loaded.told;
         self.runner = next;
         self.model = other;
-        let first = told::of_load(t);
-        if first.kind == told::CHART {
-            self.inputs = first.first;
-            self.boxes = first.second;
-            return self.settle(b"load", first, turn.told)
-                .count_file(file.len());
+        self.settle(b"load", told::of_load(t), turn.told, 0).hold()
+    }
+
+    // After a load: the numbers of the chart held.
+    fn hold(mut self) -> Pair {
+        let t = self.told;
+        if t.kind == kinds::CHART {
+            self.inputs = (t.first % 256) as u32;
+            self.boxes = t.second;
         }
-        self.settle(b"load", first, turn.told)
+        self
     }
 
     pub fn begin(mut self, mode: u32, inputs: &[u32], allowed: u32, limit: u32) -> Pair {
@@ -145,27 +147,33 @@ impl Pair {
         let t = begun.told;
         self.runner = next;
         self.model = other;
-        let first = told::of_verdict(t);
-        let pair = self.settle(b"begin", first, turn.told);
-        if first.kind == told::DONE {
-            return pair.go_ahead(mode, limit);
-        }
-        pair
+        self.settle(
+                b"begin",
+                told::of_verdict(t),
+                turn.told,
+                counts::BEGUN + mode % 3,
+            )
+            .go_ahead(mode, limit)
     }
 
-    // A copy of the model, as begin handed it back, is advanced at once by its whole limit, which ends the run.
+    // After a begin: a copy of the model is advanced at once by its whole limit, which ends the run.
     fn go_ahead(mut self, mode: u32, limit: u32) -> Pair {
+        let begun = self.told;
+        if begun.kind != kinds::DONE {
+            return self;
+        }
         let most = if limit == 0 { 4096 } else { limit };
         let model = self.model;
         let turn = model.advance(most);
         let ahead = turn.model;
-        let t = turn.told;
-        self.whole = ahead.answer();
-        self.mode = mode;
-        if t.kind != told::ENDED {
-            return self.differ(b"the limit at once", told::make(told::ENDED, most, 0), t);
+        let t = kinds::of_model(turn.told);
+        let whole = kinds::of_model(ahead.answer());
+        self.whole = whole;
+        self.mode = mode % 3;
+        if t.kind != kinds::ENDED {
+            return self.differ(b"the limit at once", begun, t);
         }
-        self.count(counts::BEGUN + (mode % 3) as usize)
+        self
     }
 
     pub fn advance(mut self, m: u32) -> Pair {
@@ -178,30 +186,26 @@ impl Pair {
         let t = advanced.told;
         self.runner = next;
         self.model = other;
-        let first = told::of_advance(t);
-        let pair = self.settle(b"advance", first, turn.told);
-        let kind = first.kind;
-        match kind {
-            told::RUNNING => pair.count(counts::RUNNING),
-            told::ENDED => pair.count(counts::STOPPED).end(),
-            _ => pair,
-        }
+        self.settle(b"advance", told::of_advance(t), turn.told, 0)
+            .end()
     }
 
-    // A run has ended: its answer is compared at once, and counted by mode and kind. What the advance told stays the last told.
+    // After an advance: of a run that has ended the answer is compared at once, and counted by mode and kind. What the advance told stays the
+    // last told.
     fn end(self) -> Pair {
-        let first = self.first;
-        let second = self.second;
+        let told = self.told;
         let mode = self.mode % 3;
+        if told.kind != kinds::ENDED {
+            return self;
+        }
         let mut pair = self.answer();
-        let answer = pair.first;
+        let answer = pair.told;
         let kind = answer.kind;
-        pair.first = first;
-        pair.second = second;
+        pair.told = told;
         match kind {
-            told::VALUE | told::NOTICE | told::SPENT => pair.count(
-                counts::ENDED + (3 * mode + (kind - told::VALUE)) as usize,
-            ),
+            kinds::VALUE | kinds::NOTICE | kinds::SPENT => {
+                pair.count(counts::ENDED + 3 * (kind - kinds::VALUE) + mode)
+            }
             _ => pair.differ(b"answer after the end", answer, answer),
         }
     }
@@ -212,14 +216,11 @@ impl Pair {
         let model = self.model;
         let whole = self.whole;
         let first = told::of_answer(runner.answer());
-        let pair = self.settle(b"answer", first, model.answer());
-        if first.kind == told::REFUSED {
+        let pair = self.settle(b"answer", first, model.answer(), 0);
+        if (first.kind == kinds::REFUSED) | kinds::same(first, whole) {
             return pair;
         }
-        if !told::same(first, whole) {
-            return pair.differ(b"answer after the limit at once", first, whole);
-        }
-        pair.count(counts::ANSWERS)
+        pair.differ(b"answer after the limit at once", first, whole)
     }
 
     pub fn abandon(mut self) -> Pair {
@@ -232,12 +233,7 @@ impl Pair {
         let t = dropped.told;
         self.runner = next;
         self.model = other;
-        let first = told::of_verdict(t);
-        let pair = self.settle(b"abandon", first, turn.told);
-        if first.kind == told::DONE {
-            return pair.count(counts::DROPPED);
-        }
-        pair
+        self.settle(b"abandon", told::of_verdict(t), turn.told, counts::DROPPED)
     }
 
     // Write back into buffers filled with one byte. The part lent starts at `from`, below 40, and has `room` bytes, at most 2,600.
@@ -250,49 +246,36 @@ impl Pair {
         let mut two = [byte; 2640];
         let first = told::of_written(runner.write_back(&mut one[start..end]));
         let second = model.write_back(&mut two[start..end]);
-        let pair = self.settle(b"write back", first, second);
-        if !same_buffers(&one, &two) {
-            return pair.differ(b"buffer after write back", first, second);
+        let alike = same_buffers(&one, &two);
+        let pair = self.settle(b"write back", first, second, 0);
+        if alike {
+            return pair;
         }
-        if first.kind == told::WRITTEN {
-            return pair.count(counts::WRITTEN);
-        }
-        pair
+        pair.differ(b"buffer after write back", first, first)
     }
 
     // Show a box: told as the length of the part and its first byte, and the bytes are compared.
-    pub fn show(self, file: &[u8], number: u32) -> Pair {
+    pub fn show(mut self, file: &[u8], number: u32) -> Pair {
         let part = chart::show_box(file, number);
         let at = second::show(file, number);
-        let length = part.len();
-        let first = told::of_shown(length, byte(part, 0));
-        let second = if at == 0 {
-            told::of_shown(0, 0)
-        } else {
-            told::of_shown(10, byte(file, at))
-        };
-        let alike = same_part(part, file, at);
-        let pair = self.settle(b"show", first, second);
-        if !alike {
-            return pair.differ(b"the bytes shown", first, second);
+        let first = told::make(kinds::SHOWN, part.len() as u64, byte(part, 0));
+        let second = shown(file, at);
+        self.told = first;
+        self.calls = std::num::wrapping_add_u32(self.calls, 1);
+        if same_part(part, file, at) & kinds::same(first, second) {
+            return self.count(counts::place(first, 0));
         }
-        if length == 0 {
-            return pair.count(counts::NOT_SHOWN);
-        }
-        pair.count(counts::SHOWN)
+        self.differ(b"show", first, second)
     }
 
     // Both told what a fixed case says, whose line is printed.
-    pub fn expect(mut self, name: &[u8], kind: u32, first: u32, second: u32) -> Pair {
-        let expected = told::make(kind, first, second);
-        if !self.same {
-            return self;
-        }
-        if told::same(expected, self.first) & told::same(expected, self.second) {
+    pub fn expect(mut self, name: &[u8], expected: Told) -> Pair {
+        let told = self.told;
+        if kinds::same(expected, told) {
             report::case(name, expected);
             return self;
         }
-        report::unexpected(name, expected, self.first, self.second);
+        report::unexpected(name, expected, told);
         self.same = false;
         self
     }

@@ -1,47 +1,50 @@
 // What the program prints: cases, differences, and what was reached.
-use crate::counts;
-use crate::told;
-use second::Told;
+use crate::text::part;
+use crate::text::piece;
+use told::Told;
 
 fn say(words: &[u8]) {
     io::write_all(1, words);
 }
 
-fn number(words: &[u8], n: u64) {
-    say(words);
-    io::print_decimal(1, n);
+fn at(numbers: &[u64], i: usize) -> u64 {
+    if i < numbers.len() {
+        return numbers[i];
+    }
+    0
 }
 
-// What a call told, in the words of the run program.
-fn print_told(t: Told) {
-    let kind = t.kind;
-    let first = t.first as u64;
-    let second = t.second as u64;
-    match kind {
-        told::DONE => say(b"done"),
-        told::CHART => {
-            number(b"chart inputs ", first);
-            number(b" boxes ", second);
+// A text, in which each % stands for the next of some numbers.
+fn fill(text: &[u8], numbers: &[u64]) {
+    let mut start: usize = 0;
+    let mut next: usize = 0;
+    let mut i: usize = 0;
+    while i < text.len() {
+        if text[i] == b'%' {
+            say(part(text, start, i));
+            io::print_decimal(1, at(numbers, next));
+            next = std::num::wrapping_add_usize(next, 1);
+            start = i + 1;
         }
-        told::RUNNING => number(b"running steps ", first),
-        told::ENDED => number(b"ended steps ", first),
-        told::VALUE => {
-            number(b"value ", first);
-            number(b" steps ", second);
-        }
-        told::NOTICE => number(b"notice steps ", first),
-        told::SPENT => number(b"spent steps ", first),
-        told::REFUSED => {
-            number(b"refused ", first);
-            number(b" detail ", second);
-        }
-        told::WRITTEN => number(b"written ", first),
-        told::SHOWN => {
-            number(b"shown bytes ", first);
-            number(b" kind ", second);
-        }
-        _ => number(b"nothing of kind ", kind as u64),
+        i += 1;
     }
+    say(part(text, start, text.len()));
+}
+
+// What a call told, in the words of the run program: a line of `texts` for each kind.
+fn print_told(t: Told) {
+    let texts = b"done
+chart inputs % boxes %
+running steps %
+ended steps %
+value % steps %
+notice steps %
+spent steps %
+refused % detail %
+written %
+shown bytes % kind %";
+    let numbers = [t.first, t.second as u64];
+    fill(piece(texts, t.kind, b'\n'), &numbers);
 }
 
 pub fn case(name: &[u8], t: Told) {
@@ -51,77 +54,20 @@ pub fn case(name: &[u8], t: Told) {
     say(b"\n");
 }
 
-fn sides(first: Told, second: Told) {
-    say(b"  runner: ");
-    print_told(first);
-    say(b"\n  model: ");
-    print_told(second);
-    say(b"\n");
-}
-
-pub fn unexpected(name: &[u8], expected: Told, first: Told, second: Told) {
+// A case that told something else than is expected.
+pub fn unexpected(name: &[u8], expected: Told, t: Told) {
     say(b"difference: ");
     case(name, expected);
-    sides(first, second);
+    case(b"  told", t);
 }
 
 // A difference at a call of a random case; the fixed cases are case 0.
-pub fn difference(what: &[u8], case: u32, call: u32, first: Told, second: Told) {
+pub fn difference(what: &[u8], number: u32, call: u32, first: Told, second: Told) {
     say(b"difference: ");
     say(what);
-    number(b", case ", case as u64);
-    number(b", call ", call as u64);
-    say(b"\n");
-    sides(first, second);
-}
-
-fn line(words: &[u8], n: u64) {
-    number(words, n);
-    say(b"\n");
-}
-
-fn by_mode(words: &[u8], counts: [u64; 64], from: usize, apart: usize) {
-    say(words);
-    number(b": bare ", at(counts, from));
-    number(
-        b", surveillance ",
-        at(counts, std::num::wrapping_add_usize(from, apart)),
-    );
-    line(
-        b", high-water ",
-        at(
-            counts,
-            std::num::wrapping_add_usize(from, std::num::wrapping_add_usize(apart, apart)),
-        ),
-    );
-}
-
-fn at(counts: [u64; 64], i: usize) -> u64 {
-    if i < 64 {
-        return counts[i];
-    }
-    0
-}
-
-fn runs(counts: [u64; 64]) {
-    by_mode(b"runs begun", counts, counts::BEGUN, 1);
-    by_mode(b"ended with a value", counts, counts::ENDED, 3);
-    by_mode(b"ended with a notice", counts, counts::ENDED + 1, 3);
-    by_mode(b"ended spent", counts, counts::ENDED + 2, 3);
-    line(b"dropped: ", at(counts, counts::DROPPED));
-    line(b"answers compared: ", at(counts, counts::ANSWERS));
-    number(b"advances: running ", at(counts, counts::RUNNING));
-    line(b", ended ", at(counts, counts::STOPPED));
-}
-
-fn files(counts: [u64; 64]) {
-    number(b"files loaded: 1024 bytes ", at(counts, counts::LOADED));
-    number(b", 1536 bytes ", at(counts, counts::LOADED + 1));
-    number(b", 2048 bytes ", at(counts, counts::LOADED + 2));
-    line(b", 2560 bytes ", at(counts, counts::LOADED + 3));
-    number(b"boxes: shown ", at(counts, counts::SHOWN));
-    line(b", not shown ", at(counts, counts::NOT_SHOWN));
-    line(b"files written back: ", at(counts, counts::WRITTEN));
+    fill(b", case %, call %\n", &[number as u64, call as u64]);
+    case(b"  runner", first);
+    case(b"  model", second);
 }
 
 // The numbers 1 to 24, but 11, which is the run program's, and those that no refusal has.
@@ -129,22 +75,30 @@ fn is_refusal(i: u64) -> bool {
     (i <= 10) | (i == 12) | (20 < i)
 }
 
-fn refusal(counts: [u64; 64], i: u64) {
-    if is_refusal(i) {
-        number(b"refused ", i);
-        line(b": ", at(counts, i as usize));
-    }
-}
-
-fn refusals(counts: [u64; 64]) {
+fn refusals(counts: &[u64; 64]) {
     for i in 1..25 {
-        refusal(counts, i);
+        if is_refusal(i) {
+            fill(b"refused %: %\n", &[i, at(counts, i as usize)]);
+        }
     }
 }
 
 // What the random cases reached.
-pub fn totals(counts: [u64; 64]) {
-    runs(counts);
-    files(counts);
+pub fn totals(counts: &[u64; 64]) {
+    let all: &[u64] = counts;
+    fill(
+        b"runs begun: bare %, surveillance %, high-water %
+ended with a value: bare %, surveillance %, high-water %
+ended with a notice: bare %, surveillance %, high-water %
+ended spent: bare %, surveillance %, high-water %
+dropped: %
+answers compared: %
+advances: running %, ended %
+files loaded: 1024 bytes %, 1536 bytes %, 2048 bytes %, 2560 bytes %
+boxes: shown %, not shown %
+files written back: %
+",
+        &all[25..48],
+    );
     refusals(counts);
 }

@@ -1,4 +1,5 @@
 // Damage to a chart's file: one change of one kind, or two. Each answers the length that the file then has.
+use crate::charts;
 use crate::charts::Shape;
 use crate::files;
 use crate::files::File;
@@ -122,11 +123,20 @@ fn once(state: &mut u64, file: &mut File, shape: Shape, length: usize) -> usize 
 }
 
 // A change to the file of a chart, one time in four two.
-pub fn make(state: &mut u64, file: &mut File, shape: Shape) -> usize {
+fn make(state: &mut u64, file: &mut File, shape: Shape) -> usize {
     let length = files::length_of(shape.boxes);
     let changed = once(state, file, shape, length);
     if one_in(state, 4) {
         return once(state, file, shape, changed);
     }
     changed
+}
+
+// The file of a random chart, one time in three damaged; answers its length.
+pub fn draw(state: &mut u64, file: &mut File) -> usize {
+    let shape = charts::make(state, file);
+    if one_in(state, 3) {
+        return make(state, file, shape);
+    }
+    files::length_of(shape.boxes)
 }

@@ -1,8 +1,8 @@
--- `cases::files::put_box` is safe and ends, by the bytes that are left.
+-- `samples::files::put_box` is safe and ends, by the bytes that are left.
 use Prim.Native.Nat.{_-_, _≤_}
 use borrow.Author.Needs.{needs}
-use Rattle.cases.proofs.files.put_box.Statement.{statement}
-use Rattle.cases.proofs.files.put_box.Tie as tie
+use Rattle.samples.proofs.files.put_box.Statement.{statement}
+use Rattle.samples.proofs.files.put_box.Tie as tie
 
 abbrev Inv-loop : tie.InvT-loop
 Inv-loop file₀ p bytes start i₀ file i = i ≤ 10

@@ -1,17 +1,20 @@
--- `cases::fixed::put_loops` is safe and ends, by the boxes that are left.
+-- `samples::charts::put_boxes` is safe and ends, by the boxes that are left.
 use Prim.Native.Nat.{_-_, _≤_}
 use borrow.Author.Needs.{needs}
-use Rattle.cases.proofs.fixed.put_loops.Statement.{statement}
-use Rattle.cases.proofs.fixed.put_loops.Tie as tie
+use Rattle.samples.proofs.charts.put_boxes.Statement.{statement}
+use Rattle.samples.proofs.charts.put_boxes.Tie as tie
 
 abbrev Inv-loop : tie.InvT-loop
-Inv-loop file₀ n p₀ file p = p ≤ n
+Inv-loop state₀ file₀ k n p₀ state file p = p ≤ n
 
 abbrev μ-loop : tie.MeasureT-loop
-μ-loop file₀ n p₀ file p = n - p
+μ-loop state₀ file₀ k n p₀ state file p = n - p
 
 loop-holds : tie.Need-loop-holds Inv-loop μ-loop
 loop-holds c = search needs
+
+random-box-requires : tie.Need-random-box-requires Inv-loop μ-loop
+random-box-requires c κs = search needs
 
 put-box-requires : tie.Need-put-box-requires Inv-loop μ-loop
 put-box-requires c κs = search needs
@@ -28,13 +31,14 @@ loop-again c = search needs
 returns : tie.Need-returns Inv-loop μ-loop
 returns c = search needs
 
-pub put-loops-spec : {M : Type 1} → statement M
-put-loops-spec =
+pub put-boxes-spec : {M : Type 1} → statement M
+put-boxes-spec =
     tie.close
     (tie.spec
     Inv-loop
     μ-loop
     loop-holds
+    random-box-requires
     put-box-requires
     add-p
     loop-less

@@ -118,3 +118,20 @@ pub fn mend(file: &mut File) {
     mend_block(file, 2048);
     mend_block(file, 2560);
 }
+
+// Chart C's box: 16 is copied to 16, next box 0.
+const LOOP: [u8; 10] = [1, 16, 1, 16, 0, 0, 0, 0, 0, 0];
+
+fn put_loops(file: &mut File, n: u32) {
+    for p in 0..n {
+        put_box(file, p, LOOP);
+    }
+}
+
+// A chart of n boxes, each chart C's; with k 0 and n 1 it is chart C.
+pub fn put_chart(file: &mut File, k: u32, n: u32) {
+    clear(file);
+    put_header(file, k, n, 0);
+    put_loops(file, n);
+    mend(file);
+}

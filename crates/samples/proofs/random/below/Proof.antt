@@ -1,9 +1,9 @@
--- `cases::random::below` meets its contract: a remainder is below its divisor.
+-- `samples::random::below` meets its contract: a remainder is below its divisor.
 use native.Mathlib.Nat.{mod-lt}
 use borrow.Author.Needs.{needs}
 use native.Mathlib.Omega.{arith}
-use Rattle.cases.proofs.random.below.Statement.{statement}
-use Rattle.cases.proofs.random.below.Tie as tie
+use Rattle.samples.proofs.random.below.Statement.{statement}
+use Rattle.samples.proofs.random.below.Tie as tie
 
 next-requires : tie.Need-next-requires
 next-requires c κs = search needs

@@ -1,8 +1,8 @@
--- `cases::calls::draw_inputs` is safe and ends, by the inputs that are left.
+-- `samples::arguments::inputs` is safe and ends, by the inputs that are left.
 use Prim.Native.Nat.{_-_, _≤_}
 use borrow.Author.Needs.{needs}
-use Rattle.cases.proofs.calls.draw_inputs.Statement.{statement}
-use Rattle.cases.proofs.calls.draw_inputs.Tie as tie
+use Rattle.samples.proofs.arguments.inputs.Statement.{statement}
+use Rattle.samples.proofs.arguments.inputs.Tie as tie
 
 abbrev Inv-loop : tie.InvT-loop
 Inv-loop state₀ inputs₀ i₀ state inputs i = i ≤ 20
@@ -34,8 +34,8 @@ loop-again c = search needs
 returns : tie.Need-returns Inv-loop μ-loop
 returns c = search needs
 
-pub draw-inputs-spec : {M : Type 1} → statement M
-draw-inputs-spec =
+pub inputs-spec : {M : Type 1} → statement M
+inputs-spec =
     tie.close
     (tie.spec
     Inv-loop

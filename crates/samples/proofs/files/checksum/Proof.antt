@@ -1,8 +1,8 @@
--- `cases::files::checksum` is safe and ends, by the bytes that are left.
+-- `samples::files::checksum` is safe and ends, by the bytes that are left.
 use Prim.Native.Nat.{_≤_}
 use borrow.Author.Needs.{needs}
-use Rattle.cases.proofs.files.checksum.Statement.{statement}
-use Rattle.cases.proofs.files.checksum.Tie as tie
+use Rattle.samples.proofs.files.checksum.Statement.{statement}
+use Rattle.samples.proofs.files.checksum.Tie as tie
 
 abbrev Inv-loop : tie.InvT-loop
 Inv-loop file start some₀ all₀ i₀ some all i = i ≤ 510
