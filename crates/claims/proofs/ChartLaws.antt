@@ -23,7 +23,10 @@ use Rattle.rules.specs.Decode.{boxAt}
 use Rattle.rules.specs.Marks.{modeOf}
 use Rattle.runner.specs.declared.Runner.{Runner}
 use Rattle.runner.specs.State.{headerIn, isHeld, isRunning, spent, idle, endedWith, dropped}
-use Rattle.runner.specs.Step.{Act, store, go, stop, act, moved, goesOn, settle, boxRun, step, run}
+use Rattle.rules.specs.Act.{act}
+use Rattle.rules.specs.declared.step.Act.{Act}
+use Rattle.rules.specs.declared.step.Act.the-variants.{Store, Go, Value, Notice}
+use Rattle.runner.specs.Step.{moved, goesOn, settle, boxRun, step, run}
 use Rattle.runner.specs.Calls.{Call, load, begin, advance, answer, abandon, writeBack, wrote, chart, Outcome, fileVerdict, roomVerdict, check, says, leaves, after, carried, call}
 use Rattle.claims.specs.Lists.{Accepted, final}
 use Rattle.claims.specs.Charts.{Obeys, HeldObeys, RunsInRange, EndsInRange, NoLoad, NoLoads, LoadedIsWritten, WrittenIsLoaded}
@@ -69,9 +72,10 @@ goes-kept r vars marks counter next = by (leb (r .limit) (r .steps + 1))
 
 settle-kept : (x : Act) (r : Runner) → Kept r (settle x r)
 unfolding settle endedWith
-settle-kept (store t v m next) r = goes-kept r _ _ _ _
-settle-kept (go next counter) r = goes-kept r _ _ _ _
-settle-kept (stop e) r = record { header = refl; table = refl }
+settle-kept (Store t v m next) r = goes-kept r _ _ _ _
+settle-kept (Go next counter) r = goes-kept r _ _ _ _
+settle-kept (Value v) r = record { header = refl; table = refl }
+settle-kept Notice r = record { header = refl; table = refl }
 
 step-kept : (r : Runner) → Kept r (step r)
 unfolding step

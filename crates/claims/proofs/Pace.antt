@@ -19,7 +19,9 @@ use Rattle.rules.proofs.MarkLaws.{or-none, or-zeros, union-none, marked-none, n
 use Rattle.runner.specs.declared.Runner.{Runner}
 use Rattle.runner.specs.State.{isRunning, isEnded, valued, notice, spent, endedWith}
 use Rattle.claims.proofs.Branches.{cond-both, set-each}
-use Rattle.runner.specs.Step.{entry, stop, go, act, moved, goesOn, settle, boxRun, step, run}
+use Rattle.rules.specs.Act.{entry, act}
+use Rattle.rules.specs.declared.step.Act.the-variants.{Go, Value, Notice}
+use Rattle.runner.specs.Step.{moved, goesOn, settle, boxRun, step, run}
 
 -- The marks of surveillance lie under those of the high-water mark.
 pub record Under (ms hs : List ℕ) : Type 0 where
@@ -103,7 +105,7 @@ settle-pace h ms (Decide k i j next other) s m c u = on (marked (bitOr (h .count
 
     on : (q : Bool) → marked (bitOr (h .counter) (bitOr (entry (h .marks) i) (entry (h .marks) j))) ≡ q
         → Pace (goesOn h (h .vars) (h .marks) (bitOr (h .counter) (bitOr (entry (h .marks) i) (entry (h .marks) j))) way)
-        (settle (cond (marked (bitOr (entry ms i) (entry ms j))) (stop notice) (go way 0)) (beside h ms))
+        (settle (cond (marked (bitOr (entry ms i) (entry ms j))) Notice (Go way 0)) (beside h ms))
     on true q = lost (goes-lost h _ _ _ _ s m q)
     on false q =
         let z = marked-none _ q in
@@ -113,8 +115,8 @@ settle-pace h ms (Decide k i j next other) s m c u = on (marked (bitOr (h .count
 settle-pace h ms Halt s m c u = on (marked (bitOr (h .counter) (entry (h .marks) 31))) refl
   where
     on : (q : Bool) → marked (bitOr (h .counter) (entry (h .marks) 31)) ≡ q
-        → Pace (settle (stop (cond q notice (valued (entry (h .vars) 31)))) h)
-        (settle (stop (cond (marked (entry ms 31)) notice (valued (entry (h .vars) 31)))) (beside h ms))
+        → Pace (settle (cond q Notice (Value (entry (h .vars) 31))) h)
+        (settle (cond (marked (entry ms 31)) Notice (Value (entry (h .vars) 31))) (beside h ms))
     on true q = lost (notice-lost _ h)
     on false q =
         let none = none-marked _ (u .under 31 (or-none (h .counter) _ (marked-none _ q) .1)) in

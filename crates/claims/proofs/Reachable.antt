@@ -20,7 +20,7 @@ use Rattle.chart.specs.Claims.{BoxInRange}
 use Rattle.chart.proofs.Rules.{stays-in-range}
 use Rattle.rules.specs.Decode.{boxAt, readBy}
 use Rattle.rules.specs.Operation.{compares}
-use Rattle.rules.specs.Marks.{Mode, bare, surveillance, highWater, modeOf, union, targetMark, decisionNotices, counterMark}
+use Rattle.rules.specs.Marks.{Mode, bare, surveillance, highWater, modeOf, union, targetMark, decisionNotices, counterMark, haltNotices}
 use Rattle.rules.specs.declared.decode.FlowBox.{FlowBox}
 use Rattle.begin.specs.Begin.{effective}
 use Rattle.begin.specs.declared.Verdict.{Verdict}
@@ -28,7 +28,9 @@ use Rattle.begin.specs.declared.Verdict.the-variants.{Done, Refused}
 use Rattle.begin.proofs.Begins.{permitted, effective-positive, effective-fits, length-vars, length-marks, marks-class}
 use Rattle.runner.specs.declared.Runner.{Runner}
 use Rattle.runner.specs.State.{headerIn, isHeld, isRunning, isEnded, Ending, valued, notice, spent, endingIn, idle, newRunner, endedWith, dropped}
-use Rattle.runner.specs.Step.{entry, stop, go, act, moved, goesOn, settle, boxRun, step, run}
+use Rattle.rules.specs.Act.{entry, act}
+use Rattle.rules.specs.declared.step.Act.the-variants.{Go, Value, Notice}
+use Rattle.runner.specs.Step.{moved, goesOn, settle, boxRun, step, run}
 use Rattle.runner.specs.Calls.{Call, load, begin, advance, answer, abandon, writeBack, fileVerdict, check, started, after, carried, call}
 use Rattle.claims.specs.Lists.{Reached, fresh, then}
 use Rattle.claims.specs.Charts.{UnderWay}
@@ -120,11 +122,15 @@ module _ (r : Runner) (s : r .state ≡ 1) (f : From (headerIn r) (r .table)) (u
   settle-sound m b (decide-below {c = c} {i = i} {j = j} {next = next} {other = other} l k) =
       on (decisionNotices m (bitOr (entry (r .marks) i) (entry (r .marks) j))) (compares c (entry (r .vars) i) (entry (r .vars) j))
     where
-      on : (n h : Bool) → Sound (settle (cond n (stop notice) (go (cond h next other) (counterMark m (r .counter) (bitOr (entry (r .marks) i) (entry (r .marks) j))))) r)
+      on : (n h : Bool) → Sound (settle (cond n Notice (Go (cond h next other) (counterMark m (r .counter) (bitOr (entry (r .marks) i) (entry (r .marks) j))))) r)
       on true h = ended-sound notice _ r f (u .held)
       on false true = goes-sound _ _ _ _ (u .vars) (u .marks) (u .classes) (counter-class (r .marks) (u .classes) m (r .counter) i j (u .counter)) l
       on false false = goes-sound _ _ _ _ (u .vars) (u .marks) (u .classes) (counter-class (r .marks) (u .classes) m (r .counter) i j (u .counter)) k
-  settle-sound m b halt-below = ended-sound _ _ r f (u .held)
+  settle-sound m b halt-below = on (haltNotices m (r .counter) (entry (r .marks) 31))
+    where
+      on : (n : Bool) → Sound (settle (cond n Notice (Value (entry (r .vars) 31))) r)
+      on true = ended-sound notice _ r f (u .held)
+      on false = ended-sound (valued _) _ r f (u .held)
 
   box-sound : Sound (boxRun r)
   box-sound =

@@ -11,7 +11,8 @@ use Rattle.begin.specs.declared.Verdict.the-variants.{Done, Refused}
 use Rattle.begin.proofs.Begins.{effective-positive}
 use Rattle.runner.specs.declared.Runner.{Runner}
 use Rattle.runner.specs.State.{isRunning}
-use Rattle.runner.specs.Step.{act, run}
+use Rattle.rules.specs.Act.{act}
+use Rattle.runner.specs.Step.{run}
 use Rattle.runner.specs.Calls.{Call, load, begin, advance, answer, abandon, writeBack, running, ended, refused, Told, Outcome, lent, check, says, leaves, started, after, carried, call}
 use Rattle.runner.proofs.Runs.{run-add}
 use Rattle.claims.specs.Lists.{Accepted, tells, AllSuch}
@@ -39,7 +40,7 @@ not-refused (writeBack b) r n d e = clash cc
 
 pub no-operation-stops : NoOperationStops
 unfolding act
-no-operation-stops mode t op i j next k vars marks counter e d = clash cc
+no-operation-stops mode t op i j next k vars marks counter = (_, _, refl)
 
 pub refusal-changes-nothing : RefusalChangesNothing
 unfolding call carried

@@ -15,7 +15,10 @@ use Rattle.begin.specs.declared.Verdict.{Verdict}
 use Rattle.begin.specs.declared.Verdict.the-variants.{Done, Refused}
 use Rattle.runner.specs.declared.Runner.{Runner}
 use Rattle.runner.specs.State.{isRunning, isEnded, Ending, valued, notice, spent, endedWith}
-use Rattle.runner.specs.Step.{Act, store, go, stop, act, moved, goesOn, settle, step, run}
+use Rattle.rules.specs.Act.{act}
+use Rattle.rules.specs.declared.step.Act.{Act}
+use Rattle.rules.specs.declared.step.Act.the-variants.{Store, Go, Value, Notice}
+use Rattle.runner.specs.Step.{moved, goesOn, settle, step, run}
 use Rattle.runner.specs.Calls.{Call, load, begin, advance, answer, abandon, writeBack, check, after, carried, call}
 use Rattle.runner.proofs.Runs.{still, run-add, step-is}
 use Rattle.claims.specs.Lists.{final, Such, AllSuch, amount, asked}
@@ -86,9 +89,10 @@ goes-on r vars marks counter next = by (leb (r .limit) (r .steps + 1)) refl
 
 settle-goes : (x : Act) (r : Runner) → Goes r (settle x r)
 unfolding settle
-settle-goes (store t v m next) r = goes-on r _ _ _ _
-settle-goes (go next counter) r = goes-on r _ _ _ _
-settle-goes (stop e) r = ended-goes e r
+settle-goes (Store t v m next) r = goes-on r _ _ _ _
+settle-goes (Go next counter) r = goes-on r _ _ _ _
+settle-goes (Value v) r = ended-goes (valued v) r
+settle-goes Notice r = ended-goes notice r
 
 step-goes : (r : Runner) → r .state ≡ 1 → Goes r (step r)
 step-goes r s =

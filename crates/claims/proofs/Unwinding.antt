@@ -18,7 +18,9 @@ use Rattle.begin.specs.declared.Verdict.{Verdict}
 use Rattle.begin.specs.declared.Verdict.the-variants.{Done, Refused}
 use Rattle.runner.specs.declared.Runner.{Runner}
 use Rattle.runner.specs.State.{isRunning, valued, notice, endedWith, dropped}
-use Rattle.runner.specs.Step.{entry, stop, go, act, moved, goesOn, settle, boxRun, step, run}
+use Rattle.rules.specs.Act.{entry, act}
+use Rattle.rules.specs.declared.step.Act.the-variants.{Go, Value, Notice}
+use Rattle.runner.specs.Step.{moved, goesOn, settle, boxRun, step, run}
 use Rattle.runner.specs.Calls.{Call, load, begin, advance, answer, abandon, writeBack, Reply, running, Outcome, check, says, leaves, after, carried, call}
 use Rattle.runner.specs.Calls as calls
 use Rattle.claims.specs.Lists.{tells}
@@ -72,8 +74,8 @@ settle-low r w (Assign t op i j next k) s m h =
 settle-low r w (Decide c i j next other) s m h = on (marked (bitOr (entry (r .marks) i) (entry (r .marks) j))) refl
   where
     on : (b : Bool) → marked (bitOr (entry (r .marks) i) (entry (r .marks) j)) ≡ b
-        → LowEqual (settle (cond b (stop notice) (go (cond (compares c (entry (r .vars) i) (entry (r .vars) j)) next other) (r .counter))) r)
-        (settle (cond b (stop notice) (go (cond (compares c (entry w i) (entry w j)) next other) (r .counter))) (withVars r w))
+        → LowEqual (settle (cond b Notice (Go (cond (compares c (entry (r .vars) i) (entry (r .vars) j)) next other) (r .counter))) r)
+        (settle (cond b Notice (Go (cond (compares c (entry w i) (entry w j)) next other) (r .counter))) (withVars r w))
     on true q = same
     on false q =
         let z = or-none (entry (r .marks) i) (entry (r .marks) j) (marked-none _ q) in
@@ -81,7 +83,7 @@ settle-low r w (Decide c i j next other) s m h = on (marked (bitOr (entry (r .ma
 settle-low r w Halt s m h = on (marked (entry (r .marks) 31)) refl
   where
     on : (b : Bool) → marked (entry (r .marks) 31) ≡ b
-        → LowEqual (settle (stop (cond b notice (valued (entry (r .vars) 31)))) r) (settle (stop (cond b notice (valued (entry w 31)))) (withVars r w))
+        → LowEqual (settle (cond b Notice (Value (entry (r .vars) 31))) r) (settle (cond b Notice (Value (entry w 31))) (withVars r w))
     on true q = same
     on false q = rw (h .agree 31 (marked-none _ q)) same
 

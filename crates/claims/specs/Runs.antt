@@ -4,11 +4,12 @@ use mathlib.Core.Path.{_≡_}
 use mathlib.Core.List.{List, List·Memᴰ}
 use mathlib.Core.Bool.{true, false}
 use Rattle.rules.specs.Marks.{Mode}
+use Rattle.rules.specs.Act.{act}
 use Rattle.rules.specs.declared.decode.FlowBox.the-variants.{Assign}
+use Rattle.rules.specs.declared.step.Act.the-variants.{Store}
 use Rattle.begin.specs.Begin.{effective}
 use Rattle.runner.specs.declared.Runner.{Runner}
-use Rattle.runner.specs.State.{isRunning, isEnded, Ending, endingIn, endedWith, dropped}
-use Rattle.runner.specs.Step.{stop, act}
+use Rattle.runner.specs.State.{isRunning, isEnded, endingIn, endedWith, dropped}
 use Rattle.runner.specs.Calls.{Call, begin, advance, Reply, done, chart, running, ended, ending, wrote, refused, Told, lent, call}
 use Rattle.claims.specs.Lists.{Reached, Accepted, tells, AllSuch, asked, Ends}
 
@@ -30,9 +31,8 @@ AdvancesJoin =
 -- "No operation stops a run": an assignment of any operation, on any operands, stores and goes on.
 abbrev pub NoOperationStops : Type 0
 NoOperationStops =
-    (mode : Mode) (target op left right next constant : ℕ) (vars marks : List ℕ) (counter : ℕ) (e : Ending)
-    → act mode (Assign target op left right next constant) vars marks counter ≡ stop e
-    → ⊥
+    (mode : Mode) (target op left right next constant : ℕ) (vars marks : List ℕ) (counter : ℕ)
+    → (value : ℕ) × (mark : ℕ) × (act mode (Assign target op left right next constant) vars marks counter ≡ Store target value mark next)
 
 -- What holds of every run at its start: after each accepted begin, of the number that its limit means and the runner handed back.
 abbrev pub AfterBegin : (ℕ → Runner → Type 0) → Type 0

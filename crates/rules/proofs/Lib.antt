@@ -5,3 +5,4 @@ pub mod Decoded
 pub mod ReadLaws
 pub mod Values
 pub mod MarkLaws
+pub mod Acts

@@ -2,3 +2,4 @@
 pub mod Decode
 pub mod Operation
 pub mod Marks
+pub mod Act

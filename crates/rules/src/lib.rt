@@ -2,3 +2,4 @@
 pub mod decode;
 pub mod marks;
 pub mod ops;
+pub mod step;

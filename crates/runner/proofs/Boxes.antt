@@ -1,70 +1,34 @@
--- What the box at hand does, by its kind and what the code computed of it, and how a run ends or goes on after it. Assumes nothing.
-use Prim.Native.Nat.{ℕ, _+_, _-_, _%_, _^_, _<_, _≤_}
+-- What the box at hand does, by the act that the code computed of it, and how a run ends or goes on after it. Assumes nothing.
+use Prim.Native.Nat.{ℕ, _+_, _-_, _^_, _<_, _≤_}
 use mathlib.Core.Path.{_≡_, refl, ap, sym, _∙_, subst}
 use mathlib.Core.Logic.{_⊎_, inl, inr}
-use mathlib.Core.List.{List, [], map}
+use mathlib.Core.List.{List, []}
 use mathlib.Core.Bool.{Bool, true, false, cond}
 use native.Mathlib.Omega.{arith}
-use lib.Bits.{bitOr}
 use lib.Dec.{eqb}
-use lib.ListN.{getD, set}
 use borrow.Author.Tests.{le-leb, lt-leb, ne-eqb}
-use Rattle.rules.specs.Decode.{boxAt, readBy}
-use Rattle.rules.specs.Operation.{valueOf, compares}
-use Rattle.rules.specs.Marks.{modeOf, union, targetMark, decisionNotices, counterMark, haltNotices}
+use Rattle.rules.specs.Decode.{boxAt}
+use Rattle.rules.specs.Marks.{modeOf}
+use Rattle.rules.specs.Act.{act}
 use Rattle.rules.specs.declared.decode.FlowBox.{FlowBox}
-use Rattle.rules.specs.declared.decode.FlowBox.the-variants.{Assign, Decide, Halt}
-use Rattle.rules.proofs.ReadLaws.{read-map}
+use Rattle.rules.specs.declared.step.Act.{Act}
 use Rattle.runner.specs.declared.Runner.{Runner}
 use Rattle.runner.specs.declared.AdvanceTold.{AdvanceTold}
 use Rattle.runner.specs.State.{headerIn, isRunning, Ending, valued, notice, spent, stateOf, valueIn, resting, endedWith}
-use Rattle.runner.specs.Step.{entry, act, moved, goesOn, settle, boxRun, run}
+use Rattle.runner.specs.Step.{moved, goesOn, settle, boxRun, run}
 use Rattle.runner.specs.Calls.{call}
 use Rattle.runner.specs.Calls as calls
 use Rattle.runner.specs.Replies.{advanceReply, outcome}
 use Rattle.runner.proofs.Runs.{still, step-is, run-one}
 use Rattle.runner.proofs.Outcomes.{advance-does}
 
--- The box at hand, of a runner in a mode.
-module _ (r : Runner) (mode : ℕ) (b : FlowBox) (em : r .mode ≡ mode) (eb : b ≡ boxAt (r .table) (r .at)) where
-  box-is : (x : FlowBox) → b ≡ x → boxRun r ≡ settle (act (modeOf mode) x (r .vars) (r .marks) (r .counter)) r
-  box-is x d =
-      ap (λ (k : ℕ). settle (act (modeOf k) (boxAt (r .table) (r .at)) (r .vars) (r .marks) (r .counter)) r) em
-      ∙ ap (λ (y : FlowBox). settle (act (modeOf mode) y (r .vars) (r .marks) (r .counter)) r) (sym eb ∙ d)
-
-  pub assign-box : (t op i j next k v read m : ℕ) → b ≡ Assign t op i j next k
-      → v ≡ valueOf op k (readBy op (entry (r .vars) i) (entry (r .vars) j))
-      → read ≡ union (readBy op (entry (r .marks) i) (entry (r .marks) j))
-      → m ≡ targetMark (modeOf mode) (entry (r .marks) t) read
-      → boxRun r ≡ goesOn r (set (r .vars) (t % 32) v) (set (r .marks) (t % 32) m) (r .counter) next
-  unfolding act settle
-  assign-box t op i j next k v read m d ev er em =
-      let value : valueOf op k (map (entry (r .vars)) (readBy op i j)) ≡ v = ap (valueOf op k) (read-map (entry (r .vars)) op i j) ∙ sym ev in
-      let mark : union (map (entry (r .marks)) (readBy op i j)) ≡ read = ap union (read-map (entry (r .marks)) op i j) ∙ sym er in
-      box-is _ d ∙ rw (value, mark, em)
-
-  module _ (c i j next other : ℕ) (f : Bool) (d : b ≡ Decide c i j next other)
-      (ef : f ≡ decisionNotices (modeOf mode) (bitOr (entry (r .marks) i) (entry (r .marks) j))) where
-    pub stop-box : f ≡ true → boxRun r ≡ endedWith notice (r .steps + 1) r
-    unfolding act settle
-    stop-box e = let n = sym ef ∙ e in box-is _ d ∙ rw n
-
-    pub go-box : (counter to : ℕ) (holds : Bool) → f ≡ false
-        → counter ≡ counterMark (modeOf mode) (r .counter) (bitOr (entry (r .marks) i) (entry (r .marks) j))
-        → holds ≡ compares c (entry (r .vars) i) (entry (r .vars) j)
-        → to ≡ cond holds next other
-        → boxRun r ≡ goesOn r (r .vars) (r .marks) counter to
-    unfolding act settle
-    go-box counter to holds e ec eh et = let n = sym ef ∙ e in box-is _ d ∙ rw (n, et, eh, ec)
-
-  module _ (f : Bool) (d : b ≡ Halt) (ef : f ≡ haltNotices (modeOf mode) (r .counter) (getD (r .marks) 31 0)) where
-    pub halt-notice-box : f ≡ true → boxRun r ≡ endedWith notice (r .steps + 1) r
-    unfolding act settle
-    halt-notice-box e = let n = sym ef ∙ e in box-is _ d ∙ rw n
-
-    pub halt-value-box : f ≡ false → boxRun r ≡ endedWith (valued (getD (r .vars) 31 0)) (r .steps + 1) r
-    unfolding act settle
-    halt-value-box e = let n = sym ef ∙ e in box-is _ d ∙ rw n
+-- The box at hand, of a runner in a mode, and the act that the code computed of it.
+pub box-does : (r : Runner) (mode : ℕ) (b : FlowBox) (a x : Act) → r .mode ≡ mode → b ≡ boxAt (r .table) (r .at)
+    → a ≡ act (modeOf mode) b (r .vars) (r .marks) (r .counter) → a ≡ x → boxRun r ≡ settle x r
+box-does r mode b a x em eb ea d =
+    ap (λ (k : ℕ). settle (act (modeOf k) (boxAt (r .table) (r .at)) (r .vars) (r .marks) (r .counter)) r) em
+    ∙ ap (λ (y : FlowBox). settle (act (modeOf mode) y (r .vars) (r .marks) (r .counter)) r) (sym eb)
+    ∙ ap (λ (y : Act). settle y r) (sym ea ∙ d)
 
 -- A runner that stands at a box after so many steps.
 abbrev pub seen : Runner → (at steps : ℕ) → Runner

@@ -113,8 +113,8 @@ module _ (r : Runner) where
   unfolding check verdictReply carried
   abandon-refuses v n e = ap (λ (x : Verdict). outcome (verdictReply x) [] r) e ∙ by-verdict calls.abandon r (refuse 23) (rw (ne-eqb _ _ n))
 
-  pub abandon-drops : (q : Runner) → r .state ≡ 1 → q ≡ idle (headerIn r) (r .table) → outcome (verdictReply Done) [] q ≡ call calls.abandon r
-  unfolding check verdictReply carried says leaves after dropped
+  pub abandon-drops : (q : Runner) → r .state ≡ 1 → q ≡ dropped r → outcome (verdictReply Done) [] q ≡ call calls.abandon r
+  unfolding check verdictReply carried says leaves after
   abandon-drops q e d = ap (outcome calls.done []) d ∙ by-verdict calls.abandon r Done (rw e)
 
   pub answer-refuses : (x : Refusal) → x ≡ refusal 24 0 → r .state < 2 → outcome (answerReply (answer.Refused x)) [] r ≡ call calls.answer r

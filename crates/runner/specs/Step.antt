@@ -1,40 +1,16 @@
--- "One step, and the ending": what one box does, and m boxes.
+-- "One step, and the ending": the runner after the act of one box, and after m boxes.
 use Prim.Native.Nat.{ℕ, zero, suc, _+_, _%_}
-use mathlib.Core.List.{List, map}
+use mathlib.Core.List.{List}
 use mathlib.Core.Bool.{cond}
-use lib.Bits.{bitOr}
 use lib.Dec.{leb}
-use lib.ListN.{getD, set}
-use Rattle.rules.specs.Decode.{boxAt, readBy}
-use Rattle.rules.specs.Operation.{valueOf, compares}
-use Rattle.rules.specs.Marks.{Mode, modeOf, union, targetMark, decisionNotices, counterMark, haltNotices}
-use Rattle.rules.specs.declared.decode.FlowBox.{FlowBox}
-use Rattle.rules.specs.declared.decode.FlowBox.the-variants.{Assign, Decide, Halt}
+use lib.ListN.{set}
+use Rattle.rules.specs.Decode.{boxAt}
+use Rattle.rules.specs.Marks.{modeOf}
+use Rattle.rules.specs.Act.{act}
+use Rattle.rules.specs.declared.step.Act.{Act}
+use Rattle.rules.specs.declared.step.Act.the-variants.{Store, Go, Value, Notice}
 use Rattle.runner.specs.declared.Runner.{Runner}
-use Rattle.runner.specs.State.{Ending, valued, notice, spent, isRunning, endedWith}
-
--- What one box does: it stores a value and a mark, it goes to a box with a counter mark, or it stops the run.
-pub data Act : Type 0 where
-  store : (target value mark next : ℕ) → Act
-  go : (next counter : ℕ) → Act
-  stop : Ending → Act
-
--- A variable's value or mark, by its number: an operand of a held chart is below 32.
-abbrev pub entry : List ℕ → ℕ → ℕ
-entry numbers v = getD numbers (v % 32) 0
-
--- The act of a box, by the mode, the variables, their marks and the counter mark.
-unfoldable pub act : Mode → FlowBox → (vars marks : List ℕ) → ℕ → Act
-act mode (Assign target op left right next constant) vars marks counter =
-    store (target % 32)
-    (valueOf op constant (map (entry vars) (readBy op left right)))
-    (targetMark mode (entry marks target) (union (map (entry marks) (readBy op left right))))
-    next
-act mode (Decide comparison left right next other) vars marks counter =
-    let read = bitOr (entry marks left) (entry marks right) in
-    cond (decisionNotices mode read) (stop notice)
-    (go (cond (compares comparison (entry vars left) (entry vars right)) next other) (counterMark mode counter read))
-act mode Halt vars marks counter = stop (cond (haltNotices mode counter (entry marks 31)) notice (valued (entry vars 31)))
+use Rattle.runner.specs.State.{valued, notice, spent, isRunning, endedWith}
 
 -- The run goes on: "Each box run counts one".
 abbrev pub moved : Runner → (vars marks : List ℕ) → (counter at : ℕ) → Runner
@@ -49,9 +25,10 @@ goesOn r vars marks counter at =
 
 -- The runner after an act. "Halt and notice come before the limit", "the box that ends the run included" in the count.
 unfoldable pub settle : Act → Runner → Runner
-settle (store target value mark next) r = goesOn r (set (r .vars) target value) (set (r .marks) target mark) (r .counter) next
-settle (go next counter) r = goesOn r (r .vars) (r .marks) counter next
-settle (stop e) r = endedWith e (r .steps + 1) r
+settle (Store target value mark next) r = goesOn r (set (r .vars) (target % 32) value) (set (r .marks) (target % 32) mark) (r .counter) next
+settle (Go next counter) r = goesOn r (r .vars) (r .marks) counter next
+settle (Value v) r = endedWith (valued v) (r .steps + 1) r
+settle Notice r = endedWith notice (r .steps + 1) r
 
 -- The box at hand is run.
 abbrev pub boxRun : Runner → Runner

@@ -4,13 +4,13 @@ use chart::Written;
 use format::Checked;
 use format::Header;
 use format::Refusal;
-use rules::decode::FlowBox;
+use rules::step::Act;
 ghost use mathlib.Core.Path.{_≡_};
 ghost use mathlib.Core.Bool.{cond};
 ghost use mathlib.Core.List.{[]};
 ghost use lib.Dec.{eqb};
 ghost use Rattle.format.specs.File.{refusal};
-ghost use Rattle.runner.specs.State.{newRunner, resting, headerIn};
+ghost use Rattle.runner.specs.State.{newRunner, dropped};
 ghost use Rattle.runner.specs.Calls.{load, begin, advance, answer, abandon, writeBack, call};
 ghost use Rattle.runner.specs.Calls as calls;
 ghost use Rattle.runner.specs.Replies.{loadReply, verdictReply, advanceReply, answerReply, writtenReply, outcome};
@@ -101,9 +101,9 @@ impl Runner {
         }
     }
 
-    // The chart stays, and no run is under way.
-    fn rest(mut self, state: u8, count: u32, value: u32) -> Runner
-        ensures { λ r. ⌜ r ≡ resting (headerIn self) (self .table) state count value ⌝ }
+    // The chart stays, and nothing of a run.
+    fn dropped(mut self) -> Runner
+        ensures { λ r. ⌜ r ≡ dropped self ⌝ }
     {
         self.vars = [0; 32];
         self.marks = [0; 32];
@@ -112,9 +112,9 @@ impl Runner {
         self.at = 0;
         self.limit = 0;
         self.steps = 0;
-        self.state = state;
-        self.count = count;
-        self.value = value;
+        self.state = 0;
+        self.count = 0;
+        self.value = 0;
         self
     }
 
@@ -138,7 +138,7 @@ impl Runner {
                     inputs: header.inputs,
                     boxes: header.boxes,
                 };
-                let runner = self.rest(0, 0, 0);
+                let runner = self.dropped();
                 Loaded { told, runner }
             }
             Checked::Refused(refusal) => Loaded {
@@ -194,50 +194,30 @@ impl Runner {
             todo = todo - 1;
             steps = steps + 1;
             let b = rules::decode::box_at(&self.table, at);
-            match b {
-                FlowBox::Assign {
+            let done = rules::step::run_box(mode, b, &self.vars, &self.marks, self.counter);
+            match done {
+                Act::Store {
                     target,
-                    op,
-                    left,
-                    right,
+                    value: v,
+                    mark,
                     next,
-                    constant,
                 } => {
                     let t = (target % 32) as usize;
-                    let i = (left % 32) as usize;
-                    let j = (right % 32) as usize;
-                    let v = rules::ops::result(op, self.vars[i], self.vars[j], constant);
-                    let read = rules::marks::read_mark(op, self.marks[i], self.marks[j]);
-                    let mark = rules::marks::target_mark(mode, self.marks[t], read);
                     self.vars[t] = v;
                     self.marks[t] = mark;
                     at = next;
                 }
-                FlowBox::Decide {
-                    comparison,
-                    left,
-                    right,
-                    next,
-                    other,
-                } => {
-                    let i = (left % 32) as usize;
-                    let j = (right % 32) as usize;
-                    let read = self.marks[i] | self.marks[j];
-                    if rules::marks::decision_notices(mode, read) {
-                        end = 3;
-                        break;
-                    }
-                    self.counter = rules::marks::counter_mark(mode, self.counter, read);
-                    let holds = rules::ops::compare(comparison, self.vars[i], self.vars[j]);
-                    at = way(holds, next, other);
+                Act::Go { next, counter } => {
+                    self.counter = counter;
+                    at = next;
                 }
-                FlowBox::Halt => {
-                    if rules::marks::halt_notices(mode, self.counter, self.marks[31]) {
-                        end = 3;
-                        break;
-                    }
+                Act::Value(v) => {
                     end = 2;
-                    value = self.vars[31];
+                    value = v;
+                    break;
+                }
+                Act::Notice => {
+                    end = 3;
                     break;
                 }
             }
@@ -277,7 +257,7 @@ impl Runner {
         }
         Changed {
             told: Verdict::Done,
-            runner: self.rest(0, 0, 0),
+            runner: self.dropped(),
         }
     }
 
@@ -311,12 +291,6 @@ impl Runner {
         };
         chart::write_back(header, &self.table, buf)
     }
-}
-
-fn way(holds: bool, next: u8, other: u8) -> u8
-    ensures { λ r. ⌜ r ≡ cond holds next other ⌝ }
-{
-    if holds { next } else { other }
 }
 
 // How many boxes an advance by m may run.

@@ -10,11 +10,11 @@ refuse-requires c κs = search needs
 returns : tie.Need-returns
 returns c = abandon-refuses _ (c .refuse .result) (c .before .if1 .taken) (c .refuse .ensures)
 
-rest-requires : tie.Need-rest-requires
-rest-requires c κs = search needs
+dropped-requires : tie.Need-dropped-requires
+dropped-requires c κs = search needs
 
 returns-2 : tie.Need-returns-2
-returns-2 c = abandon-drops _ (c .rest .result) (c .before .if1 .left) (c .rest .ensures)
+returns-2 c = abandon-drops _ (c .dropped .result) (c .before .if1 .left) (c .dropped .ensures)
 
 pub abandon-spec : {M : Type 1} → statement M
-abandon-spec = tie.close (tie.spec refuse-requires returns rest-requires returns-2)
+abandon-spec = tie.close (tie.spec refuse-requires returns dropped-requires returns-2)

@@ -9,8 +9,8 @@ use borrow.Author.Needs.{needs}
 use borrow.Author.Tests.{eqb-true}
 use Rattle.runner.specs.declared.Runner.{Runner}
 use Rattle.runner.specs.State.{headerIn, isRunning, valued, notice, spent}
-use Rattle.runner.specs.Step.{run}
-use Rattle.runner.proofs.Boxes.{assign-box, stop-box, go-box, halt-notice-box, halt-value-box, Left, left, seen, spent-left, counted-left, turned, CameTo, came-to, advance-came}
+use Rattle.runner.specs.Step.{settle, run}
+use Rattle.runner.proofs.Boxes.{box-does, Left, left, seen, spent-left, counted-left, turned, CameTo, came-to, advance-came}
 use Rattle.runner.proofs.Runs.{run-none}
 use Rattle.runner.proofs.Runner.advance.Statement.{statement}
 use Rattle.runner.proofs.Runner.advance.Tie as tie
@@ -25,6 +25,7 @@ Inv-loop m self₀ running limit mode todo₀ at₀ steps₀ end₀ value₀ sel
     × (steps < 2 ^ 16)
     × (end ≡ 1)
     × (value ≡ 0)
+    × (limit < 2 ^ 16)
 
 abbrev μ-loop : tie.MeasureT-loop
 μ-loop m self₀ running limit mode todo₀ at₀ steps₀ end₀ value₀ self todo at steps end value = todo
@@ -39,21 +40,25 @@ under-way c = let l = c .before .loop in l .inv .2 ∙ started (isRunning (c .be
     started false m todo e h t = absurd (omega arith)
 
 -- Where the arms of the box meet.
-joined : (c : tie.At-match-came Inv-loop μ-loop) → let l = c .before .before .before .before .before .loop in Left (seen (l .self) (l .at) (l .steps)) (c .match .self) (c .match .at)
+joined : (c : tie.At-match-came Inv-loop μ-loop) → let l = c .before .before .before .before .before .before .before .before .before .loop in
+    Left (seen (l .self) (l .at) (l .steps)) (c .match .self) (c .match .at)
+unfolding settle
 joined c =
-    let at = c .before .box-at in
-    let l = c .before .before .before .before .before .loop in
+    let l = c .before .before .before .before .before .before .before .before .before .loop in
     let r = seen (l .self) (l .at) (l .steps) in
+    let at = c .before .before .before .before .before .box-at in
+    let done = c .before .run-box in
     ⊎-elim
-    (λ w. left (l .self) (c .match .self) (l .at) (l .steps) _ _ _ _ (c .match .at) (w .11) (w .12)
-    (assign-box r _ (at .result) (l .inv .4) (at .ensures) _ _ _ _ _ _ _ _ _ (w .1 .given .1) (w .5 .ensures) (w .8 .ensures) (w .10 .ensures)))
-    (λ w. left (l .self) (c .match .self) (l .at) (l .steps) _ _ _ _ (c .match .at) (w .12) (w .13)
-    (go-box r _ (at .result) (l .inv .4) (at .ensures) _ _ _ _ _ (w .5 .result) (w .1 .given .1) (w .5 .ensures) _ _ (w .10 .result) (w .6 .left) (w .7 .ensures) (w .10 .ensures) (w .11 .ensures)))
+    (λ w. left (l .self) (c .match .self) (l .at) (l .steps) _ _ _ _ (c .match .at) (w .3) (w .4)
+    (box-does r _ (at .result) (done .result) _ (l .inv .4) (at .ensures) (done .ensures) (w .1 .given .1)))
+    (λ w. left (l .self) (c .match .self) (l .at) (l .steps) _ _ _ _ (c .match .at) (w .3) (w .4)
+    (box-does r _ (at .result) (done .result) _ (l .inv .4) (at .ensures) (done .ensures) (w .1 .given .1)))
     (c .match .came)
 
--- Where the loop is left: no box is to run, a decision or a halt gives a notice, a halt a value, or the limit is reached.
+-- Where the loop is left: no box is to run, a halt gives a value, a decision or a halt a notice, or the limit is reached.
 over : (c : tie.Left-loop Inv-loop μ-loop) → let q = c .loop-test in let a = c .before .before .before .args in
     CameTo (cond (isRunning (a .t1)) (a .m) 0) (a .t1) (q .self) (q .at) (q .end) (q .value) (q .steps)
+unfolding settle
 over c =
     let l = c .before .loop in
     let r = seen (l .self) (l .at) (l .steps) in
@@ -61,22 +66,18 @@ over c =
     ⊎-elim
     (λ w. inl (w .5 ∙ l .inv .6, omega arith, ap (λ (x : Runner). x .state) (w .1) ∙ l .inv .2, l .inv .0 ∙ run-none _ r (w .0 .left) ∙ rw (w .1, w .3, w .4) refl))
     (⊎-elim
-    (λ w. came-to _ (l .todo) _ r (l .inv .0) (under-way (record { before = c .before; loop-test = w .0 })) notice (q .self) (q .at) (q .end) (q .value) (q .steps) (w .0 .taken)
-    (stop-box r _ (w .3 .result) (l .inv .4) (w .3 .ensures) _ _ _ _ _ (w .9 .result) (w .5 .given .1) (w .9 .ensures) (w .10 .taken))
-    (ap headerIn (w .11)) (ap (λ (x : Runner). x .table) (w .11)) (w .15) (w .16 ∙ l .inv .7) (w .14))
-    (⊎-elim
-    (λ w. came-to _ (l .todo) _ r (l .inv .0) (under-way (record { before = c .before; loop-test = w .0 })) notice (q .self) (q .at) (q .end) (q .value) (q .steps) (w .0 .taken)
-    (halt-notice-box r _ (w .3 .result) (l .inv .4) (w .3 .ensures) (w .7 .result) (w .5 .given .1) (w .7 .ensures) (w .8 .taken))
-    (ap headerIn (w .9)) (ap (λ (x : Runner). x .table) (w .9)) (w .13) (w .14 ∙ l .inv .7) (w .12))
-    (⊎-elim
     (λ w. came-to _ (l .todo) _ r (l .inv .0) (under-way (record { before = c .before; loop-test = w .0 })) (valued _) (q .self) (q .at) (q .end) (q .value) (q .steps) (w .0 .taken)
-    (halt-value-box r _ (w .3 .result) (l .inv .4) (w .3 .ensures) (w .7 .result) (w .5 .given .1) (w .7 .ensures) (w .8 .left))
-    (ap headerIn (w .10)) (ap (λ (x : Runner). x .table) (w .10)) (w .14) (w .15) (w .13))
+    (box-does r _ (w .3 .result) (w .7 .result) _ (l .inv .4) (w .3 .ensures) (w .7 .ensures) (w .9 .given .1))
+    (ap headerIn (w .11)) (ap (λ (x : Runner). x .table) (w .11)) (w .15) (w .16) (w .14))
+    (⊎-elim
+    (λ w. came-to _ (l .todo) _ r (l .inv .0) (under-way (record { before = c .before; loop-test = w .0 })) notice (q .self) (q .at) (q .end) (q .value) (q .steps) (w .0 .taken)
+    (box-does r _ (w .3 .result) (w .7 .result) _ (l .inv .4) (w .3 .ensures) (w .7 .ensures) (w .9 .given .1))
+    (ap headerIn (w .10)) (ap (λ (x : Runner). x .table) (w .10)) (w .14) (w .15 ∙ l .inv .7) (w .13))
     (λ w.
-    let at = joined (record { before = record { before = record { before = record { before = record { before = c .before; loop-test = w .0 }; self = w .1 }; box-at-arg = w .2 }; box-at = w .3 }; match = w .4 }) in
+    let at = joined (record { before = record { before = record { before = record { before = record { before = record { before = record { before = record { before = record { before = c .before; loop-test = w .0 }; self = w .1 }; box-at-arg = w .2 }; box-at = w .3 }; self2 = w .4 }; run-box-arg = w .5 }; run-box-arg2 = w .6 }; run-box = w .7 }; match = w .8 }) in
     came-to _ (l .todo) _ r (l .inv .0) (under-way (record { before = c .before; loop-test = w .0 })) spent (q .self) (q .at) (q .end) (q .value) (q .steps) (w .0 .taken)
-    (spent-left r _ _ at (omega (arith, w .5 .taken, l .inv .3)))
-    (ap headerIn (w .6) ∙ at .header) (ap (λ (x : Runner). x .table) (w .6) ∙ at .table) (w .10) (w .11 ∙ l .inv .7) (w .9)))))
+    (spent-left r _ _ at (omega (arith, w .9 .taken, l .inv .3)))
+    (ap headerIn (w .10) ∙ at .header) (ap (λ (x : Runner). x .table) (w .10) ∙ at .table) (w .14) (w .15 ∙ l .inv .7) (w .13))))
     (q .came)
 
 cast-limit : tie.Need-cast-limit Inv-loop μ-loop
@@ -89,7 +90,7 @@ cast-steps : tie.Need-cast-steps Inv-loop μ-loop
 cast-steps c = search needs
 
 loop-holds : tie.Need-loop-holds Inv-loop μ-loop
-loop-holds c = (ap (λ (n : ℕ). run n (c .before .args .t1)) (sym (c .amount .ensures)), omega arith, refl, refl, refl, search needs, refl, refl)
+loop-holds c = (ap (λ (n : ℕ). run n (c .before .args .t1)) (sym (c .amount .ensures)), omega arith, refl, refl, refl, search needs, refl, refl, search needs)
 
 sub-todo : tie.Need-sub-todo Inv-loop μ-loop
 sub-todo c = search needs
@@ -100,47 +101,14 @@ add-steps c = search needs
 box-at-requires : tie.Need-box-at-requires Inv-loop μ-loop
 box-at-requires c κs = search needs
 
-enum-known-b : tie.Need-enum-known-b Inv-loop μ-loop
-enum-known-b c = search needs
+run-box-requires : tie.Need-run-box-requires Inv-loop μ-loop
+run-box-requires c κs = search needs
+
+enum-known-done : tie.Need-enum-known-done Inv-loop μ-loop
+enum-known-done c = search needs
 
 cast-t : tie.Need-cast-t Inv-loop μ-loop
 cast-t c = search needs
-
-cast-i : tie.Need-cast-i Inv-loop μ-loop
-cast-i c = search needs
-
-cast-j : tie.Need-cast-j Inv-loop μ-loop
-cast-j c = search needs
-
-mul-result : tie.Need-mul-result Inv-loop μ-loop
-mul-result c = search needs
-
-element-copy-out-result : tie.Need-element-copy-out-result Inv-loop μ-loop
-element-copy-out-result c = search needs
-
-mul-result-2 : tie.Need-mul-result-2 Inv-loop μ-loop
-mul-result-2 c = search needs
-
-element-copy-out-result-2 : tie.Need-element-copy-out-result-2 Inv-loop μ-loop
-element-copy-out-result-2 c = search needs
-
-result-requires : tie.Need-result-requires Inv-loop μ-loop
-result-requires c κs = search needs
-
-element-copy-out-read-mark : tie.Need-element-copy-out-read-mark Inv-loop μ-loop
-element-copy-out-read-mark c = search needs
-
-element-copy-out-read-mark-2 : tie.Need-element-copy-out-read-mark-2 Inv-loop μ-loop
-element-copy-out-read-mark-2 c = search needs
-
-read-mark-requires : tie.Need-read-mark-requires Inv-loop μ-loop
-read-mark-requires c κs = search needs
-
-element-copy-out-target-mark : tie.Need-element-copy-out-target-mark Inv-loop μ-loop
-element-copy-out-target-mark c = search needs
-
-target-mark-requires : tie.Need-target-mark-requires Inv-loop μ-loop
-target-mark-requires c κs = search needs
 
 mul-self : tie.Need-mul-self Inv-loop μ-loop
 mul-self c = search needs
@@ -151,80 +119,40 @@ element-write-self c = search needs
 element-write-self-2 : tie.Need-element-write-self-2 Inv-loop μ-loop
 element-write-self-2 c = search needs
 
-enum-known-b-2 : tie.Need-enum-known-b-2 Inv-loop μ-loop
-enum-known-b-2 c = search needs
+enum-known-done-2 : tie.Need-enum-known-done-2 Inv-loop μ-loop
+enum-known-done-2 c = search needs
 
-cast-i-2 : tie.Need-cast-i-2 Inv-loop μ-loop
-cast-i-2 c = search needs
-
-cast-j-2 : tie.Need-cast-j-2 Inv-loop μ-loop
-cast-j-2 c = search needs
-
-element-copy-out-read : tie.Need-element-copy-out-read Inv-loop μ-loop
-element-copy-out-read c = search needs
-
-element-copy-out-read-2 : tie.Need-element-copy-out-read-2 Inv-loop μ-loop
-element-copy-out-read-2 c = search needs
-
-decision-notices-requires : tie.Need-decision-notices-requires Inv-loop μ-loop
-decision-notices-requires c κs = search needs
-
-counter-mark-requires : tie.Need-counter-mark-requires Inv-loop μ-loop
-counter-mark-requires c κs = search needs
-
-mul-compare : tie.Need-mul-compare Inv-loop μ-loop
-mul-compare c = search needs
-
-element-copy-out-compare : tie.Need-element-copy-out-compare Inv-loop μ-loop
-element-copy-out-compare c = search needs
-
-mul-compare-2 : tie.Need-mul-compare-2 Inv-loop μ-loop
-mul-compare-2 c = search needs
-
-element-copy-out-compare-2 : tie.Need-element-copy-out-compare-2 Inv-loop μ-loop
-element-copy-out-compare-2 c = search needs
-
-compare-requires : tie.Need-compare-requires Inv-loop μ-loop
-compare-requires c κs = search needs
-
-way-requires : tie.Need-way-requires Inv-loop μ-loop
-way-requires c κs = search needs
+enum-known-done-3 : tie.Need-enum-known-done-3 Inv-loop μ-loop
+enum-known-done-3 c = search needs
 
 enum-told : tie.Need-enum-told Inv-loop μ-loop
 enum-told c = search needs
-
-element-copy-out-halt-notices : tie.Need-element-copy-out-halt-notices Inv-loop μ-loop
-element-copy-out-halt-notices c = search needs
-
-halt-notices-requires : tie.Need-halt-notices-requires Inv-loop μ-loop
-halt-notices-requires c κs = search needs
-
-element-copy-out-value : tie.Need-element-copy-out-value Inv-loop μ-loop
-element-copy-out-value c = search needs
 
 loop-less : tie.Need-loop-less Inv-loop μ-loop
 loop-less c = search needs
 
 loop-again : tie.Need-loop-again Inv-loop μ-loop
 loop-again c =
-    let l = c .before .before .before .before .before .before .loop in
+    let here = c .before .before .before .before .before .before .before .before .before in
+    let l = here .before .loop in
     let r = seen (l .self) (l .at) (l .steps) in
     let q = joined (c .before) in
     let below : l .self .limit ≡ _ = l .inv .3 in (
-      turned _ (l .todo) _ r (l .inv .0) (under-way (c .before .before .before .before .before)) _ (c .before .before .before .before .before .loop-test .taken)
-          (counted-left r (c .before .match .self) (c .before .match .at) q (omega (arith, c .if3 .left, below))),
+      turned _ (l .todo) _ r (l .inv .0) (under-way here) _ (here .loop-test .taken)
+          (counted-left r (c .before .match .self) (c .before .match .at) q (omega (arith, c .if1 .left, below))),
       omega arith,
       sym (ap (λ (x : Runner). x .state) (q .counted)) ∙ l .inv .2,
       sym (ap (λ (x : Runner). x .limit) (q .counted)) ∙ l .inv .3,
       sym (ap (λ (x : Runner). x .mode) (q .counted)) ∙ l .inv .4,
-      omega arith,
+      omega (arith, c .if1 .left, l .inv .8),
       l .inv .6,
       l .inv .7,
+      l .inv .8,
     )
 
 cast-self : tie.Need-cast-self Inv-loop μ-loop
 cast-self c =
-    let below = ⊎-elim (λ w. w .1) (λ w. absurd (w .0 (c .before .if4 .taken))) (over (c .before .before)) in
+    let below = ⊎-elim (λ w. w .1) (λ w. absurd (w .0 (c .before .if2 .taken))) (over (c .before .before)) in
     search needs
 
 tell-requires : tie.Need-tell-requires Inv-loop μ-loop
@@ -233,8 +161,8 @@ tell-requires c κs = search needs
 returns : tie.Need-returns Inv-loop μ-loop
 returns c =
     advance-came _ _ (c .before .before .loop-test .self) _ _ _ _ _ _ _ refl (over (c .before .before))
-    (λ e. ⊎-elim (λ w. w .2) (λ w. absurd (w .0 .left e)) (c .before .if4 .came))
-    (λ n. ⊎-elim (λ w. absurd (n (w .0 .taken))) (λ w. w .3) (c .before .if4 .came))
+    (λ e. ⊎-elim (λ w. w .2) (λ w. absurd (w .0 .left e)) (c .before .if2 .came))
+    (λ n. ⊎-elim (λ w. absurd (n (w .0 .taken))) (λ w. w .3) (c .before .if2 .came))
     (c .tell .ensures)
 
 pub advance-spec : {M : Type 1} → statement M
@@ -250,40 +178,15 @@ advance-spec =
     sub-todo
     add-steps
     box-at-requires
-    enum-known-b
+    run-box-requires
+    enum-known-done
     cast-t
-    cast-i
-    cast-j
-    mul-result
-    element-copy-out-result
-    mul-result-2
-    element-copy-out-result-2
-    result-requires
-    element-copy-out-read-mark
-    element-copy-out-read-mark-2
-    read-mark-requires
-    element-copy-out-target-mark
-    target-mark-requires
     mul-self
     element-write-self
     element-write-self-2
-    enum-known-b-2
-    cast-i-2
-    cast-j-2
-    element-copy-out-read
-    element-copy-out-read-2
-    decision-notices-requires
-    counter-mark-requires
-    mul-compare
-    element-copy-out-compare
-    mul-compare-2
-    element-copy-out-compare-2
-    compare-requires
-    way-requires
+    enum-known-done-2
+    enum-known-done-3
     enum-told
-    element-copy-out-halt-notices
-    halt-notices-requires
-    element-copy-out-value
     loop-less
     loop-again
     cast-self

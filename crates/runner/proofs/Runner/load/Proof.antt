@@ -1,5 +1,6 @@
 -- A run under way refuses; else the file's checks decide.
 use mathlib.Core.Path.{sym, _∙_}
+use Rattle.runner.specs.State.{dropped}
 use Rattle.runner.proofs.Outcomes.{load-busy, load-accepts, load-refuses}
 use borrow.Author.Needs.{needs}
 use Rattle.runner.proofs.Runner.load.Statement.{statement}
@@ -20,18 +21,19 @@ enum-known-checked c = search needs
 table-of-requires : tie.Need-table-of-requires
 table-of-requires c κs = search needs
 
-rest-requires : tie.Need-rest-requires
-rest-requires c κs = search needs
+dropped-requires : tie.Need-dropped-requires
+dropped-requires c κs = search needs
 
 enum-known-checked-2 : tie.Need-enum-known-checked-2
 enum-known-checked-2 c = search needs
 
 returns-2 : tie.Need-returns-2
+unfolding dropped
 returns-2 c =
-    load-accepts _ _ _ _ (c .rest .result) (c .before .before .before .before .before .before .if1 .left)
+    load-accepts _ _ _ _ (c .dropped .result) (c .before .before .before .before .before .before .if1 .left)
     (sym (c .before .before .before .before .before .check-file .ensures) ∙ c .before .before .before .checked .given .1)
     (c .before .table-of .ensures)
-    (c .rest .ensures)
+    (c .dropped .ensures)
 
 returns-3 : tie.Need-returns-3
 returns-3 c = load-refuses _ _ _ (c .before .before .before .before .if1 .left) (sym (c .before .before .before .check-file .ensures) ∙ c .before .checked2 .given .1)
@@ -45,7 +47,7 @@ load-spec =
     check-file-requires
     enum-known-checked
     table-of-requires
-    rest-requires
+    dropped-requires
     enum-known-checked-2
     returns-2
     returns-3)
