@@ -1,4 +1,4 @@
--- Words for lists of bytes that the rules of the chart file share.
+-- What the rules of the chart file say of lists of bytes.
 use Prim.Native.Nat.{ℕ}
 use mathlib.Core.List.{List, [], _∷_}
 use mathlib.Core.Bool.{Bool, true, _&&_}

@@ -17,7 +17,7 @@ use Rattle.rules.specs.declared.decode.FlowBox.{FlowBox}
 use Rattle.rules.specs.declared.decode.FlowBox.the-variants.{Assign, Decide, Halt}
 use Rattle.rules.proofs.MarkLaws.{or-none, or-zeros, union-none, marked-none, none-marked}
 use Rattle.runner.specs.declared.Runner.{Runner}
-use Rattle.runner.specs.State.{isRunning, isEnded, valued, notice, spent, endedWith}
+use Rattle.runner.specs.State.{isRunning, isEnded, notice, spent, endedWith}
 use Rattle.claims.proofs.Branches.{cond-both, set-each}
 use Rattle.rules.specs.Act.{entry, act}
 use Rattle.rules.specs.declared.step.Act.the-variants.{Go, Value, Notice}

@@ -17,7 +17,7 @@ use Rattle.rules.proofs.MarkLaws.{or-none, union-none, marked-none}
 use Rattle.begin.specs.declared.Verdict.{Verdict}
 use Rattle.begin.specs.declared.Verdict.the-variants.{Done, Refused}
 use Rattle.runner.specs.declared.Runner.{Runner}
-use Rattle.runner.specs.State.{isRunning, valued, notice, endedWith, dropped}
+use Rattle.runner.specs.State.{isRunning, endedWith, dropped}
 use Rattle.rules.specs.Act.{entry, act}
 use Rattle.rules.specs.declared.step.Act.the-variants.{Go, Value, Notice}
 use Rattle.runner.specs.Step.{moved, goesOn, settle, boxRun, step, run}

@@ -1,1 +1,2 @@
+-- The theorems of the examples, by computation.
 pub mod Computed

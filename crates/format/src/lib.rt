@@ -43,7 +43,7 @@ fn length_holds(len: usize) -> bool
 
 // The blocks of a file of so many boxes. The contract tells callers the range.
 pub fn blocks_for(boxes: u8) -> usize
-    ensures { λ r. ⌜ (r ≡ blocksFor boxes) × (r ≤ 7) ⌝ }
+    ensures { λ r. ⌜ (r ≡ blocksFor boxes) × (r ≤ 6) ⌝ }
 {
     1 + (widen::to_usize(boxes) + 50) / 51
 }

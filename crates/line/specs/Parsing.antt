@@ -41,7 +41,7 @@ extraZero [] = false
 extraZero (b ∷ []) = false
 extraZero (b ∷ c ∷ bytes) = eqb b 48
 
--- A "decimal number up to 4,294,967,295, without extra leading zeros".
+-- One of the "decimal numbers up to 4,294,967,295, without extra leading zeros".
 unfoldable pub isNumber : List ℕ → Bool
 isNumber bytes = ltb 0 (length bytes) && allDigits bytes && not (extraZero bytes) && leb (numberOf bytes) 4294967295
 

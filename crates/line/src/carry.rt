@@ -17,10 +17,10 @@ fn lesser(a: usize, b: usize) -> usize
 }
 
 // The first bytes of one line, and as many of a piece as there is place for.
-fn joined(old: &[u8; 256], length: usize, piece: &[u8]) -> Carry
-    ensures { λ r. ⌜ r ≡ carryOf (take length (now (old .entry)) ++ now (piece .entry)) ⌝ }
+fn joined(old: &[u8; 256], count: usize, piece: &[u8]) -> Carry
+    ensures { λ r. ⌜ r ≡ carryOf (take count (now (old .entry)) ++ now (piece .entry)) ⌝ }
 {
-    let kept = lesser(256, length);
+    let kept = lesser(256, count);
     let mut bytes = [0u8; 256];
     let whole = &old[..];
     bytes::copy(&whole[..kept], &mut bytes);

@@ -1,15 +1,13 @@
 -- The claims about lines: an accepted one prints an ending, by `limit-ends`; and a begin starts one run on any runner that holds the chart.
 -- Assumes nothing.
-use Prim.Native.Nat.{ℕ, _-_}
+use Prim.Native.Nat.{_-_}
 use mathlib.Core.Path.{_≡_, refl, ap, _∙_}
-use mathlib.Core.List.{List, [], _∷_}
+use mathlib.Core.List.{[], _∷_}
 use mathlib.Core.Bool.{false, cond}
 use native.Mathlib.Omega.{arith}
 use lib.Dec.{eqb}
 use lib.ListN.{length}
 use Rattle.boxes.specs.Bytes.{at, part}
-use Rattle.format.specs.declared.Header.{Header}
-use Rattle.begin.specs.Begin.{effective}
 use Rattle.begin.specs.declared.Verdict.{Verdict}
 use Rattle.begin.specs.declared.Verdict.the-variants.{Done, Refused}
 use Rattle.begin.proofs.Begins.{permitted, effective-fits}
@@ -17,10 +15,11 @@ use Rattle.line.specs.Parsing.{parse}
 use Rattle.line.specs.Printing.{refusedText}
 use Rattle.line.specs.declared.parsing.Numbers.{Numbers}
 use Rattle.runner.specs.State.{headerIn, isRunning}
-use Rattle.runner.specs.Calls.{advance, answer, check, call, carried, started, after, says}
+use Rattle.runner.specs.Calls.{advance, answer, check, call, carried, after, says}
 use Rattle.runner.specs.declared.Runner.{Runner}
 use Rattle.claims.specs.Lists.{final, amount, asked}
 use Rattle.claims.proofs.RunLaws.{limit-ends}
+use Rattle.claims.proofs.Secrecy.{starts-same}
 use Rattle.reply.specs.Reply.{replyText, accepted, answered, respond, LinesEnd, LinesApart}
 use Rattle.reply.specs.Reply as reply
 
@@ -32,13 +31,6 @@ lines-end r ns a =
     limit-ends r _ _ _ _ a (advance 65535 ∷ []) (tt, tt) (omega (arith, enough))
 
 module _ (r r′ : Runner) (h : headerIn r ≡ headerIn r′) (t : r .table ≡ r′ .table) (o : isRunning r ≡ false) (o′ : isRunning r′ ≡ false) where
-  starts-same : (mode : ℕ) (inputs : List ℕ) (allowed limit : ℕ) → started r mode inputs allowed limit ≡ started r′ mode inputs allowed limit
-  starts-same mode inputs allowed limit =
-      let k : r .inputs ≡ r′ .inputs = ap (λ (x : Header). x .inputs) h in
-      let n : r .boxes ≡ r′ .boxes = ap (λ (x : Header). x .boxes) h in
-      let f : r .first ≡ r′ .first = ap (λ (x : Header). x .first) h in
-      cc
-
   checks-same : (ns : Numbers) → check (reply.asked ns) r ≡ check (reply.asked ns) r′
   unfolding check
   checks-same ns = rw (h, o, o′) refl
@@ -47,7 +39,7 @@ module _ (r r′ : Runner) (h : headerIn r ≡ headerIn r′) (t : r .table ≡ 
   unfolding carried answered after says accepted
   answers-same Done ns =
       ap (λ (y : Runner). replyText (call answer (reply.ran y) .told .reply))
-      (starts-same (at (ns .numbers) 0) (part (ns .numbers) 3 (ns .count - 3)) (at (ns .numbers) 1) (effective (at (ns .numbers) 2)))
+      (starts-same r r′ (at (ns .numbers) 0) (part (ns .numbers) 3 (ns .count - 3)) (at (ns .numbers) 1) _ _ (record { header = h; table = t }) refl)
   answers-same (Refused x) ns = refl
 
 pub lines-apart : LinesApart

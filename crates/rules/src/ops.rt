@@ -13,14 +13,14 @@ fn product(a: u32, b: u32) -> u32
 }
 
 // The quotient, 0 when right is 0.
-fn divide(a: u32, b: u32) -> u32
+fn quotient(a: u32, b: u32) -> u32
     ensures { λ r. ⌜ r ≡ quotient a b ⌝ }
 {
     if b == 0 { 0 } else { a / b }
 }
 
 // The remainder, left when right is 0.
-fn rest(a: u32, b: u32) -> u32
+fn remainder(a: u32, b: u32) -> u32
     ensures { λ r. ⌜ r ≡ remainder a b ⌝ }
 {
     if b == 0 { a } else { a % b }
@@ -48,8 +48,8 @@ pub fn result(op: u8, a: u32, b: u32, constant: u32) -> u32
         2 => std::num::wrapping_add_u32(a, b),
         3 => std::num::wrapping_sub_u32(a, b),
         4 => product(a, b),
-        5 => divide(a, b),
-        6 => rest(a, b),
+        5 => quotient(a, b),
+        6 => remainder(a, b),
         7 => lesser(a, b),
         8 => greater(a, b),
         9 => u32::count_ones(a),

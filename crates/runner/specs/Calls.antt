@@ -78,7 +78,7 @@ says answer r = ending (endingIn r) (r .count)
 says abandon r = done
 says (writeBack buffer) r = wrote (fileLength (headerIn r))
 
--- The buffer lent to a call.
+-- The buffer lent to a call to be written. A file and inputs are lent to be read, and no byte of them changes.
 abbrev pub lent : Call → List ℕ
 lent (load file) = []
 lent (begin mode inputs allowed limit) = []

@@ -8,11 +8,13 @@ ghost use Prim.Native.Nat.{_≤_};
 ghost use lib.ListN.{length};
 ghost use Rattle.io.specs.Counts.{Counts};
 
-// Between two lines: the bytes of a line that has not ended, the number of lines so far, and how many bytes wait to be written.
+// Between two lines: the bytes of a line that has not ended, the number of lines so far, how many bytes wait to be written, and whether the output is
+// open: a write that fails closes it.
 struct Session {
     carry: Carry,
     lines: u64,
     waiting: usize,
+    open: bool,
 }
 
 // Reads chart.bin to the front of a buffer, and answers how many bytes: none where it cannot be read.
@@ -28,36 +30,51 @@ pub fn read_chart(buf: &mut [u8]) -> usize
     length
 }
 
-// Writes the bytes that wait at the front of a buffer, and answers whether it could.
-fn flush(waiting: usize, out: &[u8]) -> bool {
+// Writes the bytes that wait at the front of a buffer, where the output is open.
+fn flush(mut session: Session, out: &[u8]) -> Session {
+    let waiting = session.waiting;
+    session.waiting = 0;
+    if session.open {
+        if waiting <= out.len() {
+            session.open = io::write_all(STDOUT_FILENO, &out[..waiting]);
+        }
+    }
+    session
+}
+
+fn has_room(waiting: usize, out: &[u8]) -> bool {
     if waiting <= out.len() {
-        return io::write_all(STDOUT_FILENO, &out[..waiting]);
+        return 64 <= out.len() - waiting;
     }
     false
 }
 
-// Where the next text goes: after the bytes that wait or, where the room is short, at the front, once they are written.
+// Writes what waits where the room for a text is short.
+fn make_room(session: Session, out: &[u8]) -> Session {
+    if has_room(session.waiting, out) {
+        return session;
+    }
+    flush(session, out)
+}
+
+// Where the next text goes.
 fn place(waiting: usize, out: &[u8]) -> usize
     ensures { λ r. ⌜ r ≤ length (now (out .entry)) ⌝ }
 {
-    if waiting <= out.len() {
-        if 64 <= out.len() - waiting {
-            return waiting;
-        }
-    }
-    flush(waiting, out);
-    0
+    if waiting <= out.len() { waiting } else { 0 }
 }
 
 // Answers a line.
 fn answer_line(runner: Runner, session: Session, text: &[u8], out: &mut [u8]) -> Session {
-    let at = place(session.waiting, out);
-    let lines = std::num::wrapping_add_u64(session.lines, 1);
+    let ready = make_room(session, out);
+    let at = place(ready.waiting, out);
+    let lines = std::num::wrapping_add_u64(ready.lines, 1);
     let length = reply::respond(runner, lines, text, &mut out[at..]);
     Session {
         carry: Carry::new(),
         lines,
         waiting: std::num::wrapping_add_usize(at, length),
+        open: ready.open,
     }
 }
 
@@ -84,6 +101,7 @@ fn keep(session: Session, piece: &[u8]) -> Session {
         carry,
         lines: session.lines,
         waiting: session.waiting,
+        open: session.open,
     }
 }
 
@@ -101,15 +119,15 @@ fn take_input(runner: Runner, mut session: Session, input: &[u8], out: &mut [u8]
     session
 }
 
-// Reads and answers until the input ends or the output fails; what waits is written before each wait for input. An ending loop counts its turns, from a
-// number that no run uses up.
+// Reads and answers until the input ends or the output is closed; what waits is written before each wait for input. An ending loop counts its turns, from
+// a number that no run uses up.
 fn serve(runner: Runner, mut session: Session, input: &mut [u8], out: &mut [u8]) -> Session {
     let mut turns = u64::MAX;
     while 0 < turns {
-        if !flush(session.waiting, out) {
+        session = flush(session, out);
+        if !session.open {
             return session;
         }
-        session.waiting = 0;
         let got = libc::read(STDIN_FILENO, input);
         let count = io::count(got, input);
         if count == 0 {
@@ -132,6 +150,7 @@ pub fn run() {
         carry: Carry::new(),
         lines: 0,
         waiting: greeted.length,
+        open: true,
     };
     if greeted.loaded {
         let mut input = io::large_buffer();
@@ -141,5 +160,5 @@ pub fn run() {
             session = end_line(runner, session, &file[0..0], out);
         }
     }
-    flush(session.waiting, out);
+    flush(session, out);
 }

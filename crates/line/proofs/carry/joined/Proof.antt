@@ -64,7 +64,7 @@ returns c =
     let copy = c .before .before .before .before .before .before .copy in
     let first = take (kept .result) (now (a .old)) in
     let piece = take (more .result) (now (a .piece)) in
-    carry-joined (now (a .old)) (now (a .piece)) (a .length) (kept .result) (more .result) (search needs) (kept .ensures) (more .ensures) _ _
+    carry-joined (now (a .old)) (now (a .piece)) (a .count) (kept .result) (more .result) (search needs) (kept .ensures) (more .ensures) _ _
     (copied first (replicate 256 0) _ (length first) (copy .ensures .1) refl)
     (copied piece _ _ (length piece) (c .before .copy2 .ensures .1) refl)
 

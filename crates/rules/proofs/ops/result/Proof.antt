@@ -17,11 +17,11 @@ wrapping-sub-u32-requires c κs = search needs
 product-requires : tie.Need-product-requires
 product-requires c κs = search needs
 
-divide-requires : tie.Need-divide-requires
-divide-requires c κs = search needs
+quotient-requires : tie.Need-quotient-requires
+quotient-requires c κs = search needs
 
-rest-requires : tie.Need-rest-requires
-rest-requires c κs = search needs
+remainder-requires : tie.Need-remainder-requires
+remainder-requires c κs = search needs
 
 lesser-requires : tie.Need-lesser-requires
 lesser-requires c κs = search needs
@@ -51,11 +51,11 @@ returns-5 c = simp (c .before .match .keys5) (c .product .ensures)
 
 returns-6 : tie.Need-returns-6
 unfolding readBy valueOf valueOfBoth
-returns-6 c = simp (c .before .match .keys6) (c .divide .ensures)
+returns-6 c = simp (c .before .match .keys6) (c .quotient .ensures)
 
 returns-7 : tie.Need-returns-7
 unfolding readBy valueOf valueOfBoth
-returns-7 c = simp (c .before .match .keys7) (c .rest .ensures)
+returns-7 c = simp (c .before .match .keys7) (c .remainder .ensures)
 
 returns-8 : tie.Need-returns-8
 unfolding readBy valueOf valueOfBoth
@@ -96,8 +96,8 @@ result-spec =
     wrapping-add-u32-requires
     wrapping-sub-u32-requires
     product-requires
-    divide-requires
-    rest-requires
+    quotient-requires
+    remainder-requires
     lesser-requires
     greater-requires
     returns

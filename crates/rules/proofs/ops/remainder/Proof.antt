@@ -1,9 +1,9 @@
--- `rest` branches where the definition does.
+-- `remainder` branches where the definition does.
 use borrow.Author.Tests.{eq-eqb, ne-eqb}
 use Rattle.rules.specs.Operation.{remainder}
 use borrow.Author.Needs.{needs}
-use Rattle.rules.proofs.ops.rest.Statement.{statement}
-use Rattle.rules.proofs.ops.rest.Tie as tie
+use Rattle.rules.proofs.ops.remainder.Statement.{statement}
+use Rattle.rules.proofs.ops.remainder.Tie as tie
 
 rem-result : tie.Need-rem-result
 rem-result c = search needs
@@ -16,5 +16,5 @@ returns-2 : tie.Need-returns-2
 unfolding remainder
 returns-2 c = simp (ne-eqb _ _ (c .if1 .left))
 
-pub rest-spec : {M : Type 1} → statement M
-rest-spec = tie.close (tie.spec rem-result returns returns-2)
+pub remainder-spec : {M : Type 1} → statement M
+remainder-spec = tie.close (tie.spec rem-result returns returns-2)

@@ -1,0 +1,2 @@
+-- The theorem of the claim in specs/.
+pub mod Numbers

@@ -1,0 +1,35 @@
+-- The numbers of a reply give the reply back, so no two replies have the same. Assumes nothing.
+use mathlib.Core.Path.{_≡_, refl, ap, sym, _∙_}
+use mathlib.Core.Bool.{cond}
+use lib.Dec.{eqb}
+use Rattle.runner.specs.State.{valued, notice, spent}
+use Rattle.runner.specs.Calls.{Reply, done, chart, running, ended, ending, wrote, refused}
+use Rattle.told.specs.Told.{endingNumbers, encode, EncodesOnce}
+use Rattle.told.specs.declared.Told.{Told}
+
+decode : Told → Reply
+decode t =
+    cond (eqb (t .kind) 0) done
+    (cond (eqb (t .kind) 1) (chart (t .first) (t .second))
+    (cond (eqb (t .kind) 2) (running (t .first))
+    (cond (eqb (t .kind) 3) (ended (t .first))
+    (cond (eqb (t .kind) 4) (ending (valued (t .first)) (t .second))
+    (cond (eqb (t .kind) 5) (ending notice (t .first))
+    (cond (eqb (t .kind) 6) (ending spent (t .first))
+    (cond (eqb (t .kind) 7) (refused (t .first) (t .second))
+    (wrote (t .first)))))))))
+
+decoded : (r : Reply) → decode (encode r) ≡ r
+unfolding decode encode endingNumbers
+decoded done = refl
+decoded (chart inputs boxes) = refl
+decoded (running steps) = refl
+decoded (ended steps) = refl
+decoded (ending (valued v) steps) = refl
+decoded (ending notice steps) = refl
+decoded (ending spent steps) = refl
+decoded (wrote bytes) = refl
+decoded (refused number detail) = refl
+
+pub encodes-once : EncodesOnce
+encodes-once a b e = sym (decoded a) ∙ ap decode e ∙ decoded b
