@@ -8,11 +8,11 @@ ghost use Prim.Native.Nat.{_≤_};
 ghost use lib.ListN.{length};
 ghost use Rattle.io.specs.Counts.{Counts};
 
-// Between two lines: the bytes of a line that has not ended, the number of lines so far, how many bytes wait to be written, and whether the output is
+// Between two lines: the number of lines so far, where in the input the next one starts, how many bytes wait to be written, and whether the output is
 // open: a write that fails closes it.
 struct Session {
-    carry: Carry,
     lines: u64,
+    at: usize,
     waiting: usize,
     open: bool,
 }
@@ -66,74 +66,105 @@ fn place(waiting: usize, out: &[u8]) -> usize
 
 // Answers a line.
 fn answer_line(runner: Runner, session: Session, text: &[u8], out: &mut [u8]) -> Session {
-    let ready = make_room(session, out);
+    let mut ready = make_room(session, out);
     let at = place(ready.waiting, out);
     let lines = std::num::wrapping_add_u64(ready.lines, 1);
     let length = reply::respond(runner, lines, text, &mut out[at..]);
-    Session {
-        carry: Carry::new(),
-        lines,
-        waiting: std::num::wrapping_add_usize(at, length),
-        open: ready.open,
-    }
+    ready.lines = lines;
+    ready.waiting = std::num::wrapping_add_usize(at, length);
+    ready
 }
 
-// Answers a line of which this is the last piece.
-fn end_line(runner: Runner, session: Session, piece: &[u8], out: &mut [u8]) -> Session {
-    let carry = session.carry;
-    if carry.length == 0 {
-        return answer_line(runner, session, piece, out);
-    }
-    let whole = carry.with(piece);
-    let length = whole.length;
-    let bytes = whole.bytes;
-    let kept = &bytes[..];
-    if length <= kept.len() {
-        return answer_line(runner, session, &kept[..length], out);
-    }
-    session
-}
-
-// Keeps a piece of a line that has not ended.
-fn keep(session: Session, piece: &[u8]) -> Session {
-    let carry = session.carry.with(piece);
-    Session {
-        carry,
-        lines: session.lines,
-        waiting: session.waiting,
-        open: session.open,
-    }
-}
-
-// Answers the lines that end in a piece of input, and keeps what is left of it.
+// Answers the lines that end in the input.
 fn take_input(runner: Runner, mut session: Session, input: &[u8], out: &mut [u8]) -> Session {
     let mut at: usize = 0;
-    while at < input.len() {
-        let end = bytes::scan::find(input, at, input.len(), b'\n');
-        if end == input.len() {
-            return keep(session, &input[at..end]);
-        }
-        session = end_line(runner, session, &input[at..end], out);
+    let mut end = bytes::scan::find(input, 0, input.len(), b'\n');
+    while end < input.len() {
+        session = answer_line(runner, session, &input[at..end], out);
         at = end + 1;
+        end = bytes::scan::find(input, at, input.len(), b'\n');
     }
+    session.at = at;
     session
+}
+
+// A line that has not ended, of which 256 bytes are kept.
+fn unfinished(input: &[u8], at: usize) -> Carry {
+    if at <= input.len() {
+        return Carry::new().with(&input[at..]);
+    }
+    Carry::new()
+}
+
+// Puts the bytes that were kept at the front of the input, and answers how many.
+fn restore(carry: Carry, input: &mut [u8]) -> usize
+    ensures { λ r. ⌜ r ≤ length (now (input .exit)) ⌝ }
+{
+    let bytes = carry.bytes;
+    let kept = &bytes[..];
+    let count = carry.length;
+    if count <= kept.len() {
+        if count <= input.len() {
+            bytes::copy(&kept[..count], input);
+            return count;
+        }
+    }
+    0
+}
+
+// Where the input has ended and its last line has not, gives that line its newline, and answers where it ends.
+fn end_last(kept: usize, input: &mut [u8]) -> usize
+    ensures { λ r. ⌜ r ≤ length (now (input .exit)) ⌝ }
+{
+    if 0 < kept {
+        if kept < input.len() {
+            input[kept] = b'\n';
+            return kept + 1;
+        }
+    }
+    0
+}
+
+// Input up to `end`, and whether there may be more.
+struct Filled {
+    end: usize,
+    more: bool,
+}
+
+// Reads more input behind the bytes that were kept.
+fn fill(carry: Carry, input: &mut [u8]) -> Filled
+    ensures { λ r. ⌜ r .end ≤ length (now (input .exit)) ⌝ }
+{
+    let kept = restore(carry, input);
+    let got = libc::read(STDIN_FILENO, &mut input[kept..]);
+    let count = io::count(got, &input[kept..]);
+    if count == 0 {
+        let end = end_last(kept, input);
+        return Filled { end, more: false };
+    }
+    Filled {
+        end: kept + count,
+        more: true,
+    }
 }
 
 // Reads and answers until the input ends or the output is closed; what waits is written before each wait for input. An ending loop counts its turns, from
 // a number that no run uses up.
 fn serve(runner: Runner, mut session: Session, input: &mut [u8], out: &mut [u8]) -> Session {
+    let mut carry = Carry::new();
     let mut turns = u64::MAX;
     while 0 < turns {
         session = flush(session, out);
         if !session.open {
             return session;
         }
-        let got = libc::read(STDIN_FILENO, input);
-        let count = io::count(got, input);
-        if count == 0 {
+        let filled = fill(carry, input);
+        let piece = &input[..filled.end];
+        session = take_input(runner, session, piece, out);
+        if !filled.more {
             return session;
         }
-        session = take_input(runner, session, &input[..count], out);
+        carry = unfinished(piece, session.at);
         turns -= 1;
     }
     session
@@ -147,18 +178,14 @@ pub fn run() {
     let greeted = reply::greet(Runner::new(), &file[..length], out);
     let runner = greeted.runner;
     let mut session = Session {
-        carry: Carry::new(),
         lines: 0,
+        at: 0,
         waiting: greeted.length,
         open: true,
     };
     if greeted.loaded {
         let mut input = io::large_buffer();
         session = serve(runner, session, &mut input, out);
-        let carry = session.carry;
-        if carry.length != 0 {
-            session = end_line(runner, session, &file[0..0], out);
-        }
     }
     flush(session, out);
 }

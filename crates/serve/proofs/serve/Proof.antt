@@ -1,15 +1,19 @@
 -- `serve` counts its turns down.
-use mathlib.Core.Path.{_≡_}
+use mathlib.Core.Path.{_≡_, sym}
 use lib.ListN.{length}
+use lib.Seq.{length-take-le}
 use borrow.Author.Needs.{needs}
 use Rattle.serve.proofs.serve.Statement.{statement}
 use Rattle.serve.proofs.serve.Tie as tie
 
 abbrev Inv-loop : tie.InvT-loop
-Inv-loop runner session₀ input₀ out₀ turns₀ session input out turns = (length input ≡ length input₀) × (length out ≡ length out₀)
+Inv-loop runner session₀ input₀ out₀ carry₀ turns₀ session input out carry turns = (length input ≡ length input₀) × (length out ≡ length out₀)
 
 abbrev μ-loop : tie.MeasureT-loop
-μ-loop runner session₀ input₀ out₀ turns₀ session input out turns = turns
+μ-loop runner session₀ input₀ out₀ carry₀ turns₀ session input out carry turns = turns
+
+new-requires : tie.Need-new-requires Inv-loop μ-loop
+new-requires c κs = search needs
 
 loop-holds : tie.Need-loop-holds Inv-loop μ-loop
 loop-holds c = search needs
@@ -26,11 +30,17 @@ same-length-2 c = search needs
 returns : tie.Need-returns Inv-loop μ-loop
 returns c = search needs
 
-read-requires : tie.Need-read-requires Inv-loop μ-loop
-read-requires c κs = search needs
+fill-requires : tie.Need-fill-requires Inv-loop μ-loop
+fill-requires c κs = search needs
 
-count-requires : tie.Need-count-requires Inv-loop μ-loop
-count-requires c κs = search needs
+slice-reshare-prefix-piece : tie.Need-slice-reshare-prefix-piece Inv-loop μ-loop
+slice-reshare-prefix-piece c = search needs
+
+slice-aggregate-piece : tie.Need-slice-aggregate-piece Inv-loop μ-loop
+slice-aggregate-piece c = sym (length-take-le _ _ (search needs))
+
+take-input-requires : tie.Need-take-input-requires Inv-loop μ-loop
+take-input-requires c κs = search needs
 
 same-length-3 : tie.Need-same-length-3 Inv-loop μ-loop
 same-length-3 c = search needs
@@ -41,14 +51,8 @@ same-length-4 c = search needs
 returns-2 : tie.Need-returns-2 Inv-loop μ-loop
 returns-2 c = search needs
 
-slice-reshare-prefix-take-input : tie.Need-slice-reshare-prefix-take-input Inv-loop μ-loop
-slice-reshare-prefix-take-input c = search needs
-
-slice-aggregate-take-input : tie.Need-slice-aggregate-take-input Inv-loop μ-loop
-slice-aggregate-take-input c = search needs
-
-take-input-requires : tie.Need-take-input-requires Inv-loop μ-loop
-take-input-requires c κs = search needs
+unfinished-requires : tie.Need-unfinished-requires Inv-loop μ-loop
+unfinished-requires c κs = search needs
 
 sub-turns : tie.Need-sub-turns Inv-loop μ-loop
 sub-turns c = search needs
@@ -74,19 +78,20 @@ serve-spec =
     (tie.spec
     Inv-loop
     μ-loop
+    new-requires
     loop-holds
     flush-requires
     same-length
     same-length-2
     returns
-    read-requires
-    count-requires
+    fill-requires
+    slice-reshare-prefix-piece
+    slice-aggregate-piece
+    take-input-requires
     same-length-3
     same-length-4
     returns-2
-    slice-reshare-prefix-take-input
-    slice-aggregate-take-input
-    take-input-requires
+    unfinished-requires
     sub-turns
     loop-less
     loop-again
