@@ -23,9 +23,9 @@ use Rattle.rules.specs.Decode.{boxAt}
 use Rattle.rules.specs.Marks.{modeOf}
 use Rattle.runner.specs.declared.Runner.{Runner}
 use Rattle.runner.specs.State.{headerIn, isHeld, isRunning, spent, idle, endedWith, dropped}
-use Rattle.rules.specs.Act.{act}
-use Rattle.rules.specs.declared.step.Act.{Act}
-use Rattle.rules.specs.declared.step.Act.the-variants.{Store, Go, Value, Notice}
+use Rattle.step.specs.Act.{act}
+use Rattle.step.specs.declared.Act.{Act}
+use Rattle.step.specs.declared.Act.the-variants.{Store, Go, Value, Notice}
 use Rattle.runner.specs.Step.{moved, goesOn, settle, boxRun, step, run}
 use Rattle.runner.specs.Calls.{Call, load, begin, advance, answer, abandon, writeBack, wrote, chart, Outcome, fileVerdict, roomVerdict, check, says, leaves, after, carried, call}
 use Rattle.claims.specs.Lists.{Accepted, final}

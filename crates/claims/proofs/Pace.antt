@@ -19,8 +19,8 @@ use Rattle.rules.proofs.MarkLaws.{or-none, or-zeros, union-none, marked-none, n
 use Rattle.runner.specs.declared.Runner.{Runner}
 use Rattle.runner.specs.State.{isRunning, isEnded, notice, spent, endedWith}
 use Rattle.claims.proofs.Branches.{cond-both, set-each}
-use Rattle.rules.specs.Act.{entry, act}
-use Rattle.rules.specs.declared.step.Act.the-variants.{Go, Value, Notice}
+use Rattle.step.specs.Act.{entry, act}
+use Rattle.step.specs.declared.Act.the-variants.{Go, Value, Notice}
 use Rattle.runner.specs.Step.{moved, goesOn, settle, boxRun, step, run}
 
 -- The marks of surveillance lie under those of the high-water mark.

@@ -28,8 +28,8 @@ use Rattle.begin.specs.declared.Verdict.the-variants.{Done, Refused}
 use Rattle.begin.proofs.Begins.{permitted, effective-positive, effective-fits, length-vars, length-marks, marks-class}
 use Rattle.runner.specs.declared.Runner.{Runner}
 use Rattle.runner.specs.State.{headerIn, isHeld, isRunning, isEnded, Ending, valued, notice, spent, endingIn, idle, newRunner, endedWith, dropped}
-use Rattle.rules.specs.Act.{entry, act}
-use Rattle.rules.specs.declared.step.Act.the-variants.{Go, Value, Notice}
+use Rattle.step.specs.Act.{entry, act}
+use Rattle.step.specs.declared.Act.the-variants.{Go, Value, Notice}
 use Rattle.runner.specs.Step.{moved, goesOn, settle, boxRun, step, run}
 use Rattle.runner.specs.Calls.{Call, load, begin, advance, answer, abandon, writeBack, fileVerdict, check, started, after, carried, call}
 use Rattle.claims.specs.Lists.{Reached, fresh, then}

@@ -11,7 +11,7 @@ use Rattle.begin.specs.declared.Verdict.the-variants.{Done, Refused}
 use Rattle.begin.proofs.Begins.{effective-positive}
 use Rattle.runner.specs.declared.Runner.{Runner}
 use Rattle.runner.specs.State.{isRunning}
-use Rattle.rules.specs.Act.{act}
+use Rattle.step.specs.Act.{act}
 use Rattle.runner.specs.Step.{run}
 use Rattle.runner.specs.Calls.{Call, load, begin, advance, answer, abandon, writeBack, running, ended, refused, Told, Outcome, lent, check, says, leaves, started, after, carried, call}
 use Rattle.runner.proofs.Runs.{run-add}

@@ -15,9 +15,9 @@ use Rattle.begin.specs.declared.Verdict.{Verdict}
 use Rattle.begin.specs.declared.Verdict.the-variants.{Done, Refused}
 use Rattle.runner.specs.declared.Runner.{Runner}
 use Rattle.runner.specs.State.{isRunning, isEnded, Ending, valued, notice, spent, endedWith}
-use Rattle.rules.specs.Act.{act}
-use Rattle.rules.specs.declared.step.Act.{Act}
-use Rattle.rules.specs.declared.step.Act.the-variants.{Store, Go, Value, Notice}
+use Rattle.step.specs.Act.{act}
+use Rattle.step.specs.declared.Act.{Act}
+use Rattle.step.specs.declared.Act.the-variants.{Store, Go, Value, Notice}
 use Rattle.runner.specs.Step.{moved, goesOn, settle, step, run}
 use Rattle.runner.specs.Calls.{Call, load, begin, advance, answer, abandon, writeBack, check, after, carried, call}
 use Rattle.runner.proofs.Runs.{still, run-add, step-is}

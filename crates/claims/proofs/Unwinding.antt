@@ -18,8 +18,8 @@ use Rattle.begin.specs.declared.Verdict.{Verdict}
 use Rattle.begin.specs.declared.Verdict.the-variants.{Done, Refused}
 use Rattle.runner.specs.declared.Runner.{Runner}
 use Rattle.runner.specs.State.{isRunning, endedWith, dropped}
-use Rattle.rules.specs.Act.{entry, act}
-use Rattle.rules.specs.declared.step.Act.the-variants.{Go, Value, Notice}
+use Rattle.step.specs.Act.{entry, act}
+use Rattle.step.specs.declared.Act.the-variants.{Go, Value, Notice}
 use Rattle.runner.specs.Step.{moved, goesOn, settle, boxRun, step, run}
 use Rattle.runner.specs.Calls.{Call, load, begin, advance, answer, abandon, writeBack, Reply, running, Outcome, check, says, leaves, after, carried, call}
 use Rattle.runner.specs.Calls as calls

@@ -4,9 +4,9 @@ use mathlib.Core.Path.{_≡_}
 use mathlib.Core.List.{List, List·Memᴰ}
 use mathlib.Core.Bool.{true, false}
 use Rattle.rules.specs.Marks.{Mode}
-use Rattle.rules.specs.Act.{act}
+use Rattle.step.specs.Act.{act}
 use Rattle.rules.specs.declared.decode.FlowBox.the-variants.{Assign}
-use Rattle.rules.specs.declared.step.Act.the-variants.{Store}
+use Rattle.step.specs.declared.Act.the-variants.{Store}
 use Rattle.begin.specs.Begin.{effective}
 use Rattle.runner.specs.declared.Runner.{Runner}
 use Rattle.runner.specs.State.{isRunning, isEnded, endingIn, endedWith, dropped}

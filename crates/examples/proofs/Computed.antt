@@ -15,7 +15,7 @@ use Rattle.rules.specs.Operation.{valueOfLeft, quotient, remainder, valueOfBoth
 use Rattle.rules.specs.Marks.{modeOf, union, targetMark, decisionNotices, counterMark, haltNotices}
 use Rattle.begin.specs.Begin.{beginVerdict, effective, firstVars, withheldMark, withheldMarks, firstMarks}
 use Rattle.runner.specs.State.{newRunner, endedWith}
-use Rattle.rules.specs.Act.{act}
+use Rattle.step.specs.Act.{act}
 use Rattle.runner.specs.Step.{goesOn, settle, step, run}
 use Rattle.runner.specs.Calls.{fileVerdict, check, says, leaves, after, carried, call}
 use Rattle.claims.specs.Lists.{tells}

@@ -11,7 +11,7 @@ use Rattle.lists.proofs.Parts.{take-min, take-again, drop-replicate}
 use Rattle.line.specs.Parsing.{parse}
 use Rattle.line.specs.Carry.{carryOf, held, carried, joined, PiecesJoin}
 use Rattle.line.proofs.Parsed.{too-long}
-use Rattle.line.proofs.Fronts.{front, then-front}
+use Rattle.lists.proofs.Fronts.{front, then-front}
 
 module _ (old piece : List ℕ) (size kept more : ℕ) (o : length old ≡ 256) (k : kept ≡ min 256 size) (m : more ≡ min (256 - kept) (length piece)) where
   abbrev first : List ℕ

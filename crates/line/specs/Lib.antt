@@ -1,4 +1,3 @@
--- The run program's lines: read as numbers, and printed.
+-- The run program's lines: read as numbers, and kept in pieces.
 pub mod Parsing
-pub mod Printing
 pub mod Carry

@@ -1,3 +1,4 @@
--- Laws of lists that several crates cite: of parts, and of stores.
+-- Laws of lists that several crates cite: of parts, of stores, and of fronts.
 pub mod Parts
 pub mod Stores
+pub mod Fronts

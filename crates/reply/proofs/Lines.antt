@@ -12,7 +12,7 @@ use Rattle.begin.specs.declared.Verdict.{Verdict}
 use Rattle.begin.specs.declared.Verdict.the-variants.{Done, Refused}
 use Rattle.begin.proofs.Begins.{permitted, effective-fits}
 use Rattle.line.specs.Parsing.{parse}
-use Rattle.line.specs.Printing.{refusedText}
+use Rattle.texts.specs.Printing.{refusedText}
 use Rattle.line.specs.declared.parsing.Numbers.{Numbers}
 use Rattle.runner.specs.State.{headerIn, isRunning}
 use Rattle.runner.specs.Calls.{advance, answer, check, call, carried, after, says}

@@ -9,7 +9,7 @@ use Rattle.format.specs.declared.Refusal.{Refusal}
 use Rattle.begin.specs.declared.Verdict.{Verdict}
 use Rattle.begin.specs.declared.Verdict.the-variants as verdict
 use Rattle.line.specs.Parsing.{parse}
-use Rattle.line.specs.Printing.{chartText, refusedText, printed, printedLength}
+use Rattle.texts.specs.Printing.{chartText, refusedText, printed, printedLength}
 use Rattle.line.specs.declared.parsing.Numbers.{Numbers}
 use Rattle.runner.specs.Calls.{Outcome, advance, answer, call}
 use Rattle.runner.specs.Replies.{loadReply, verdictReply, advanceReply, answerReply, outcome}

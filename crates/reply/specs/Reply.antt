@@ -7,7 +7,7 @@ use mathlib.Core.Bool.{Bool, true, false, cond}
 use lib.Dec.{eqb}
 use Rattle.boxes.specs.Bytes.{at, part}
 use Rattle.line.specs.Parsing.{parse}
-use Rattle.line.specs.Printing.{chartText, valueText, noticeText, spentText, refusedText}
+use Rattle.texts.specs.Printing.{chartText, valueText, noticeText, spentText, refusedText}
 use Rattle.line.specs.declared.parsing.Numbers.{Numbers}
 use Rattle.runner.specs.State.{headerIn, isRunning, Ending, valued, notice, spent}
 use Rattle.runner.specs.Calls.{Reply, done, chart, running, ended, ending, wrote, refused, Outcome, Call, load, begin, advance, answer, call}

@@ -5,7 +5,7 @@ use runner::LoadTold;
 use runner::Runner;
 ghost use mathlib.Core.Path.{_≡_};
 ghost use lib.ListN.{length};
-ghost use Rattle.line.specs.Printing.{printed, printedLength};
+ghost use Rattle.texts.specs.Printing.{printed, printedLength};
 ghost use Rattle.runner.specs.Replies.{answerReply};
 ghost use Rattle.reply.specs.Reply.{replyText, accepted, loaded, respond};
 
@@ -28,7 +28,7 @@ pub fn greet(runner: Runner, file: &[u8], out: &mut [u8]) -> Greeted
     let after = loading.runner;
     match told {
         LoadTold::Chart { inputs, boxes } => {
-            let length = line::print_chart(inputs, boxes, out);
+            let length = texts::print_chart(inputs, boxes, out);
             Greeted {
                 runner: after,
                 length,
@@ -36,7 +36,7 @@ pub fn greet(runner: Runner, file: &[u8], out: &mut [u8]) -> Greeted
             }
         }
         LoadTold::Refused(refusal) => {
-            let length = line::print_refused(refusal.number, refusal.detail as u64, out);
+            let length = texts::print_refused(refusal.number, refusal.detail as u64, out);
             Greeted {
                 runner: after,
                 length,
@@ -52,11 +52,11 @@ fn print_answer(told: AnswerTold, out: &mut [u8]) -> usize
     ensures { λ _. ⌜ now (out .exit) ≡ printed (replyText (answerReply told)) (now (out .entry)) ⌝ }
 {
     match told {
-        AnswerTold::Value { value, steps } => line::print_value(value, steps, out),
-        AnswerTold::Notice(steps) => line::print_notice(steps, out),
-        AnswerTold::Spent(steps) => line::print_spent(steps, out),
+        AnswerTold::Value { value, steps } => texts::print_value(value, steps, out),
+        AnswerTold::Notice(steps) => texts::print_notice(steps, out),
+        AnswerTold::Spent(steps) => texts::print_spent(steps, out),
         AnswerTold::Refused(refusal) => {
-            line::print_refused(refusal.number, refusal.detail as u64, out)
+            texts::print_refused(refusal.number, refusal.detail as u64, out)
         }
     }
 }
@@ -69,7 +69,7 @@ pub fn respond(runner: Runner, number: u64, text: &[u8], out: &mut [u8]) -> usiz
     let read = line::parse(text);
     let count = read.count;
     if count == 0 {
-        return line::print_refused(11, number, out);
+        return texts::print_refused(11, number, out);
     }
     let numbers = read.numbers;
     let mode = numbers[0];
@@ -86,7 +86,7 @@ pub fn respond(runner: Runner, number: u64, text: &[u8], out: &mut [u8]) -> usiz
             print_answer(ended.answer(), out)
         }
         Verdict::Refused(refusal) => {
-            line::print_refused(refusal.number, refusal.detail as u64, out)
+            texts::print_refused(refusal.number, refusal.detail as u64, out)
         }
     }
 }

@@ -5,4 +5,3 @@ pub mod Decoded
 pub mod ReadLaws
 pub mod Values
 pub mod MarkLaws
-pub mod Acts

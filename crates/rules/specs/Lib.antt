@@ -2,4 +2,3 @@
 pub mod Decode
 pub mod Operation
 pub mod Marks
-pub mod Act

@@ -2,4 +2,3 @@
 pub mod decode;
 pub mod marks;
 pub mod ops;
-pub mod step;

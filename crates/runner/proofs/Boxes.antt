@@ -9,9 +9,9 @@ use lib.Dec.{eqb}
 use borrow.Author.Tests.{le-leb, lt-leb, ne-eqb}
 use Rattle.rules.specs.Decode.{boxAt}
 use Rattle.rules.specs.Marks.{modeOf}
-use Rattle.rules.specs.Act.{act}
+use Rattle.step.specs.Act.{act}
 use Rattle.rules.specs.declared.decode.FlowBox.{FlowBox}
-use Rattle.rules.specs.declared.step.Act.{Act}
+use Rattle.step.specs.declared.Act.{Act}
 use Rattle.runner.specs.declared.Runner.{Runner}
 use Rattle.runner.specs.declared.AdvanceTold.{AdvanceTold}
 use Rattle.runner.specs.State.{headerIn, isRunning, Ending, valued, notice, spent, stateOf, valueIn, resting, endedWith}

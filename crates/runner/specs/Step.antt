@@ -6,9 +6,9 @@ use lib.Dec.{leb}
 use lib.ListN.{set}
 use Rattle.rules.specs.Decode.{boxAt}
 use Rattle.rules.specs.Marks.{modeOf}
-use Rattle.rules.specs.Act.{act}
-use Rattle.rules.specs.declared.step.Act.{Act}
-use Rattle.rules.specs.declared.step.Act.the-variants.{Store, Go, Value, Notice}
+use Rattle.step.specs.Act.{act}
+use Rattle.step.specs.declared.Act.{Act}
+use Rattle.step.specs.declared.Act.the-variants.{Store, Go, Value, Notice}
 use Rattle.runner.specs.declared.Runner.{Runner}
 use Rattle.runner.specs.State.{valued, notice, spent, isRunning, endedWith}
 

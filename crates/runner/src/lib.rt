@@ -4,7 +4,7 @@ use chart::Written;
 use format::Checked;
 use format::Header;
 use format::Refusal;
-use rules::step::Act;
+use step::Act;
 ghost use mathlib.Core.Path.{_≡_};
 ghost use mathlib.Core.Bool.{cond};
 ghost use mathlib.Core.List.{[]};
@@ -194,7 +194,7 @@ impl Runner {
             todo = todo - 1;
             steps = steps + 1;
             let b = rules::decode::box_at(&self.table, at);
-            let done = rules::step::run_box(mode, b, &self.vars, &self.marks, self.counter);
+            let done = step::run_box(mode, b, &self.vars, &self.marks, self.counter);
             match done {
                 Act::Store {
                     target,

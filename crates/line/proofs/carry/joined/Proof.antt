@@ -6,7 +6,7 @@ use lib.ListN.{length, take, replicate, length-take}
 use lib.Seq.{length-take-le}
 use denote.Ref.{now}
 use Rattle.lists.proofs.Stores.{copied}
-use Rattle.line.proofs.Fronts.{fits-part}
+use Rattle.lists.proofs.Fronts.{fits-part}
 use Rattle.line.proofs.Carries.{carry-joined}
 use borrow.Author.Needs.{needs}
 use Rattle.line.proofs.carry.joined.Statement.{statement}

@@ -1,0 +1,2 @@
+-- The act of a box, case by case.
+pub mod Acts

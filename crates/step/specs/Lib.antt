@@ -1,0 +1,2 @@
+-- What one box does.
+pub mod Act

@@ -1,0 +1,2 @@
+-- The texts that the run program prints.
+pub mod Printing
