@@ -4,6 +4,7 @@ use mathlib.Core.Path.{_≡_}
 use mathlib.Core.List.{List, [], _∷_, map}
 use Rattle.format.specs.Block.{checksum}
 use Rattle.format.specs.File.{headerOf}
+use Rattle.rules.specs.Decode.{readBy}
 use Rattle.rules.specs.Operation.{valueOf}
 use Rattle.begin.specs.Begin.{effective}
 use Rattle.runner.specs.State.{Ending, valued, notice, spent, newRunner}
@@ -67,11 +68,11 @@ expected c = chart (headerOf (c .file) .inputs) (headerOf (c .file) .boxes) ∷ 
 -- "4,294,967,295 plus 1 is 0; 0 minus 1 is 4,294,967,295; 7 by 0 leaves quotient 0, remainder 7; one bits of 4,294,967,295: 32."
 unfoldable pub arithmetic : List ℕ
 arithmetic =
-    valueOf 2 0 (4294967295 ∷ 1 ∷ [])
-    ∷ valueOf 3 0 (0 ∷ 1 ∷ [])
-    ∷ valueOf 5 0 (7 ∷ 0 ∷ [])
-    ∷ valueOf 6 0 (7 ∷ 0 ∷ [])
-    ∷ valueOf 9 0 (4294967295 ∷ [])
+    valueOf 2 0 (readBy 2 4294967295 1)
+    ∷ valueOf 3 0 (readBy 3 0 1)
+    ∷ valueOf 5 0 (readBy 5 7 0)
+    ∷ valueOf 6 0 (readBy 6 7 0)
+    ∷ valueOf 9 0 (readBy 9 4294967295 0)
     ∷ []
 
 -- All that 01 marks (P). "Checks: block 0 has 832, block 1 has 137."
