@@ -77,4 +77,9 @@ parse-first line = by (decLt 255 (length line))
     by (no l) = ap parse (take-all 256 line (omega arith))
 
 pub pieces-join : PiecesJoin
-pieces-join pieces = ap parse (held-all [] pieces) ∙ parse-first (joined pieces)
+pieces-join pieces last =
+    let line = joined pieces in
+    ap (λ (h : List ℕ). parse (h ++ last)) (held-all [] pieces)
+    ∙ sym (parse-first (take 256 line ++ last))
+    ∙ ap parse (take-again 256 line last)
+    ∙ parse-first (line ++ last)

@@ -23,6 +23,6 @@ unfoldable pub joined : List (List ℕ) → List ℕ
 joined [] = []
 joined (piece ∷ pieces) = piece ++ joined pieces
 
--- The claim: a line is read the same in whatever pieces it comes.
+-- The claim: a line is read the same in whatever pieces it comes, from what is kept of the earlier ones and the last one whole.
 abbrev pub PiecesJoin : Type 0
-PiecesJoin = (pieces : List (List ℕ)) → parse (held (carried (carryOf []) pieces)) ≡ parse (joined pieces)
+PiecesJoin = (pieces : List (List ℕ)) (last : List ℕ) → parse (held (carried (carryOf []) pieces) ++ last) ≡ parse (joined pieces ++ last)
