@@ -1,5 +1,4 @@
--- The loop over a line as a function of what is left of it, what it makes of a line, and lines in pieces.
+-- The loop over a line as a function of what is left of it, and what it makes of a line.
 pub mod Scan
 pub mod Parsed
 pub mod Loop
-pub mod Carries

@@ -8,8 +8,8 @@ use native.Mathlib.Nat.{le-trans, suc-ne-zero, zero-add}
 use native.Mathlib.Decide.{ℕ-discrete, decLt}
 use native.Mathlib.Omega.{arith}
 use lib.Dec.{eqb, ltb, leb, eqb·suc-zero}
-use lib.ListN.{length, replicate, length-append, length-map, length-replicate}
-use lib.Seq.{append-snoc}
+use lib.ListN.{length, take, replicate, length-append, length-take, length-map, length-replicate}
+use lib.Seq.{append-snoc, take-all}
 use borrow.Author.Tests.{leb-true, leb-false, eqb-false, lt-ltb, le-ltb, le-leb, lt-leb, eq-eqb, ne-eqb}
 use Rattle.boxes.proofs.Bools.{and-right, every}
 use Rattle.line.specs.Parsing.{firstPart, laterParts, parts, isDigit, allDigits, numberFrom, numberOf, extraZero, isNumber, allNumbers, isLine, numbersOf, parse}
@@ -207,6 +207,14 @@ parsed line l = taken-is line [] 0 0 (omega arith) (omega arith) (λ r. refl) �
 pub too-long : (line : List ℕ) → 255 < length line → numbersOf [] ≡ parse line
 unfolding parse isLine
 too-long line l = rw (lt-leb (length line) 255 l) refl
+
+-- A line is read by its first 256 bytes.
+pub parse-first : (line : List ℕ) → parse (take 256 line) ≡ parse line
+parse-first line = by (decLt 255 (length line))
+  where
+    by : Dec (255 < length line) → parse (take 256 line) ≡ parse line
+    by (yes l) = sym (too-long (take 256 line) (omega (arith, length-take 256 line))) ∙ too-long line l
+    by (no l) = ap parse (take-all 256 line (omega arith))
 
 -- How many numbers a line has.
 pub some-numbers : (line : List ℕ) → (parse line .count ≡ 0 → ⊥) → (3 ≤ parse line .count) × (parse line .count ≤ 19)

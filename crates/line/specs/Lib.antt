@@ -1,3 +1,2 @@
--- The run program's lines: read as numbers, and kept in pieces.
+-- The run program's lines, read as numbers.
 pub mod Parsing
-pub mod Carry

@@ -1,7 +1,5 @@
-// The run program's lines: parsed, and kept while they come in pieces.
-mod carry;
+// The run program's lines, parsed.
 mod parsing;
 
-pub use carry::Carry;
 pub use parsing::Numbers;
 pub use parsing::parse;

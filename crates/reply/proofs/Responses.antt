@@ -5,6 +5,8 @@ use mathlib.Core.List.{List, []}
 use mathlib.Core.Bool.{Bool, true, false}
 use lib.ListN.{length}
 use borrow.Author.Tests.{eq-eqb, ne-eqb}
+use Rattle.io.specs.Counts.{Counts}
+use Rattle.texts.proofs.Fronts.{printed-counts}
 use Rattle.format.specs.declared.Refusal.{Refusal}
 use Rattle.begin.specs.declared.Verdict.{Verdict}
 use Rattle.begin.specs.declared.Verdict.the-variants as verdict
@@ -24,18 +26,27 @@ use Rattle.reply.specs.Reply.{replyText, accepted, asked, ran, answered,
 abbrev pub Prints : List ℕ → ℕ → (out after : List ℕ) → Type 0
 Prints text r out after = (r ≡ printedLength text (length out)) × (after ≡ printed text out)
 
+counts : (text : List ℕ) (r : ℕ) (out after : List ℕ) → length after ≡ length out → Prints text r out after → Counts r after
+counts text r out after l p = rw (p .0, p .1) (printed-counts text out (ap length (sym (p .1)) ∙ l))
+
 -- The replies of load.
-module _ (file : Outcome) (x : LoadTold) (next : Runner) (e : outcome (loadReply x) [] next ≡ file) (r : ℕ) (out after : List ℕ) where
+module _ (file : Outcome) (x : LoadTold) (next : Runner) (e : outcome (loadReply x) [] next ≡ file) (r : ℕ) (out after : List ℕ) (l : length after ≡ length out) where
+  abbrev Shows : List ℕ → Type 0
+  Shows text = (r ≡ printedLength text (length out)) × ((after ≡ printed text out) × Counts r after)
+
+  shows : (text : List ℕ) → Prints text r out after → Shows text
+  shows text p = (p .0, (p .1, counts text r out after l p))
+
   abbrev Greets : Bool → Type 0
-  Greets b = (next ≡ file .next) × ((b ≡ accepted (file .told .reply)) × Prints (replyText (file .told .reply)) r out after)
+  Greets b = (next ≡ file .next) × ((b ≡ accepted (file .told .reply)) × Shows (replyText (file .told .reply)))
 
   pub greets-chart : (k n : ℕ) → x ≡ load.Chart k n → Prints (chartText k n) r out after → Greets true
   unfolding loadReply replyText accepted
-  greets-chart k n q p = rw (sym e, q) (refl, (refl, p))
+  greets-chart k n q p = rw (sym e, q) (refl, (refl, shows (chartText k n) p))
 
   pub greets-refusal : (y : Refusal) → x ≡ load.Refused y → Prints (refusedText (y .number) (y .detail)) r out after → Greets false
   unfolding loadReply replyText accepted
-  greets-refusal y q p = rw (sym e, q) (refl, (refl, p))
+  greets-refusal y q p = rw (sym e, q) (refl, (refl, shows (refusedText (y .number) (y .detail)) p))
 
 -- The texts of a line.
 module _ (s : Runner) (number : ℕ) (line : List ℕ) (ns : Numbers) (p : ns ≡ parse line) (r : ℕ) (out after : List ℕ) where

@@ -5,9 +5,10 @@ use runner::LoadTold;
 use runner::Runner;
 ghost use mathlib.Core.Path.{_≡_};
 ghost use lib.ListN.{length};
+ghost use Rattle.io.specs.Counts.{Counts};
 ghost use Rattle.texts.specs.Printing.{printed, printedLength};
 ghost use Rattle.runner.specs.Replies.{answerReply};
-ghost use Rattle.reply.specs.Reply.{replyText, accepted, loaded, respond};
+ghost use Rattle.reply.specs.Reply.{replyText, accepted, loaded, respond, LinesEnd, LinesApart};
 
 // The runner afterwards, how many bytes were printed, and whether a chart was loaded.
 pub struct Greeted {
@@ -22,6 +23,7 @@ pub fn greet(runner: Runner, file: &[u8], out: &mut [u8]) -> Greeted
     ensures { λ r. ⌜ r .loaded ≡ accepted (loaded (now (file .entry)) runner .told .reply) ⌝ }
     ensures { λ r. ⌜ r .length ≡ printedLength (replyText (loaded (now (file .entry)) runner .told .reply)) (length (now (out .entry))) ⌝ }
     ensures { λ _. ⌜ now (out .exit) ≡ printed (replyText (loaded (now (file .entry)) runner .told .reply)) (now (out .entry)) ⌝ }
+    ensures { λ r. ⌜ Counts (r .length) (now (out .exit)) ⌝ }
 {
     let loading = runner.load(file);
     let told = loading.told;
@@ -89,4 +91,10 @@ pub fn respond(runner: Runner, number: u64, text: &[u8], out: &mut [u8]) -> usiz
             texts::print_refused(refusal.number, refusal.detail as u64, out)
         }
     }
+}
+
+// The claims of lines, which this contract holds.
+pub fn promised()
+    ensures { λ _. ⌜ LinesEnd × LinesApart ⌝ }
+{
 }

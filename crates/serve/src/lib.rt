@@ -1,21 +1,14 @@
-// The run program: reads chart.bin, then lines from standard input, and prints a line for each. What is printed for a line is `reply::respond`; here
-// are the pieces that input comes in and the buffer that output goes through.
+// The run program's calls of the system: chart.bin is read, then standard input, as the turns of `transcript` want it, and what they want is written. Standard
+// error is told what standard output cannot say.
+use libc::STDERR_FILENO;
 use libc::STDIN_FILENO;
 use libc::STDOUT_FILENO;
-use line::Carry;
 use runner::Runner;
+use transcript::Session;
+use transcript::Wanted;
 ghost use Prim.Native.Nat.{_≤_};
 ghost use lib.ListN.{length};
 ghost use Rattle.io.specs.Counts.{Counts};
-
-// Between two lines: the number of lines so far, where in the input the next one starts, how many bytes wait to be written, and whether the output is
-// open: a write that fails closes it.
-struct Session {
-    lines: u64,
-    at: usize,
-    waiting: usize,
-    open: bool,
-}
 
 // Reads chart.bin to the front of a buffer, and answers how many bytes: none where it cannot be read.
 pub fn read_chart(buf: &mut [u8]) -> usize
@@ -23,169 +16,105 @@ pub fn read_chart(buf: &mut [u8]) -> usize
 {
     let fd = os::open_read(b"chart.bin");
     if fd < 0 {
+        os::fail(b"chart.bin");
         return 0;
     }
-    let length = io::read_full(fd, buf);
+    let length = read_file(fd, buf);
     libc::close(fd);
     length
 }
 
-// Writes the bytes that wait at the front of a buffer, where the output is open.
-fn flush(mut session: Session, out: &[u8]) -> Session {
-    let waiting = session.waiting;
-    session.waiting = 0;
-    if session.open {
-        if waiting <= out.len() {
-            session.open = io::write_all(STDOUT_FILENO, &out[..waiting]);
+// Reads until a buffer is full or the file ends; a read that fails counts as no bytes.
+fn read_file(fd: i32, buf: &mut [u8]) -> usize
+    ensures { λ r. ⌜ Counts r (now (buf .exit)) ⌝ }
+{
+    let mut length: usize = 0;
+    while length < buf.len() {
+        let got = libc::read(fd, &mut buf[length..]);
+        if got < 0 {
+            os::fail(b"chart.bin");
+            return 0;
         }
+        let more = io::count(got, &buf[length..]);
+        if more == 0 {
+            break;
+        }
+        length += more;
     }
-    session
+    length
 }
 
-fn has_room(waiting: usize, out: &[u8]) -> bool {
-    if waiting <= out.len() {
-        return 64 <= out.len() - waiting;
+// Writes a text, and answers whether that was done.
+fn write(text: &[u8]) -> bool {
+    if io::write_all(STDOUT_FILENO, text) {
+        return true;
     }
+    os::fail(b"standard output");
     false
 }
 
-// Writes what waits where the room for a text is short.
-fn make_room(session: Session, out: &[u8]) -> Session {
-    if has_room(session.waiting, out) {
-        return session;
-    }
-    flush(session, out)
-}
-
-// Where the next text goes.
-fn place(waiting: usize, out: &[u8]) -> usize
-    ensures { λ r. ⌜ r ≤ length (now (out .entry)) ⌝ }
+// Reads behind the bytes at hand.
+fn read(session: Session, buffer: &mut [u8]) -> Session
+    requires { ⌜ session .end ≤ length (now buffer) ⌝ }
 {
-    if waiting <= out.len() { waiting } else { 0 }
-}
-
-// Answers a line.
-fn answer_line(runner: Runner, session: Session, text: &[u8], out: &mut [u8]) -> Session {
-    let mut ready = make_room(session, out);
-    let at = place(ready.waiting, out);
-    let lines = std::num::wrapping_add_u64(ready.lines, 1);
-    let length = reply::respond(runner, lines, text, &mut out[at..]);
-    ready.lines = lines;
-    ready.waiting = std::num::wrapping_add_usize(at, length);
-    ready
-}
-
-// Answers the lines that end in the input.
-fn take_input(runner: Runner, mut session: Session, input: &[u8], out: &mut [u8]) -> Session {
-    let mut at: usize = 0;
-    let mut end = bytes::scan::find(input, 0, input.len(), b'\n');
-    while end < input.len() {
-        session = answer_line(runner, session, &input[at..end], out);
-        at = end + 1;
-        end = bytes::scan::find(input, at, input.len(), b'\n');
+    let end = session.end;
+    let got = libc::read(STDIN_FILENO, &mut buffer[end..]);
+    if got < 0 {
+        os::fail(b"standard input");
     }
-    session.at = at;
-    session
+    transcript::received(session, got, buffer)
 }
 
-// A line that has not ended, of which 256 bytes are kept.
-fn unfinished(input: &[u8], at: usize) -> Carry {
-    if at <= input.len() {
-        return Carry::new().with(&input[at..]);
-    }
-    Carry::new()
-}
-
-// Puts the bytes that were kept at the front of the input, and answers how many.
-fn restore(carry: Carry, input: &mut [u8]) -> usize
-    ensures { λ r. ⌜ r ≤ length (now (input .exit)) ⌝ }
-{
-    let bytes = carry.bytes;
-    let kept = &bytes[..];
-    let count = carry.length;
-    if count <= kept.len() {
-        if count <= input.len() {
-            bytes::copy(&kept[..count], input);
-            return count;
-        }
-    }
-    0
-}
-
-// Where the input has ended and its last line has not, gives that line its newline, and answers where it ends.
-fn end_last(kept: usize, input: &mut [u8]) -> usize
-    ensures { λ r. ⌜ r ≤ length (now (input .exit)) ⌝ }
-{
-    if 0 < kept {
-        if kept < input.len() {
-            input[kept] = b'\n';
-            return kept + 1;
-        }
-    }
-    0
-}
-
-// Input up to `end`, and whether there may be more.
-struct Filled {
-    end: usize,
-    more: bool,
-}
-
-// Reads more input behind the bytes that were kept.
-fn fill(carry: Carry, input: &mut [u8]) -> Filled
-    ensures { λ r. ⌜ r .end ≤ length (now (input .exit)) ⌝ }
-{
-    let kept = restore(carry, input);
-    let got = libc::read(STDIN_FILENO, &mut input[kept..]);
-    let count = io::count(got, &input[kept..]);
-    if count == 0 {
-        let end = end_last(kept, input);
-        return Filled { end, more: false };
-    }
-    Filled {
-        end: kept + count,
-        more: true,
-    }
-}
-
-// Reads and answers until the input ends or the output is closed; what waits is written before each wait for input. An ending loop counts its turns, from
-// a number that no run uses up.
-fn serve(runner: Runner, mut session: Session, input: &mut [u8], out: &mut [u8]) -> Session {
-    let mut carry = Carry::new();
+// Does what each turn wants, until one wants to stop or a write fails. An ending loop counts its turns, from a number that no run uses up.
+fn serve(runner: Runner, buffer: &mut [u8], out: &mut [u8]) {
+    let mut session = Session {
+        count: 0,
+        at: 0,
+        end: 0,
+        over: false,
+    };
     let mut turns = u64::MAX;
     while 0 < turns {
-        session = flush(session, out);
-        if !session.open {
-            return session;
-        }
-        let filled = fill(carry, input);
-        let piece = &input[..filled.end];
-        session = take_input(runner, session, piece, out);
-        if !filled.more {
-            return session;
-        }
-        carry = unfinished(piece, session.at);
         turns -= 1;
+        let turned = transcript::turn(runner, session, buffer, out);
+        let wanted = turned.wanted;
+        let length = turned.length;
+        session = turned.session;
+        match wanted {
+            Wanted::Write => {
+                if !write(&out[..length]) {
+                    return;
+                }
+            }
+            Wanted::Read => {
+                session = read(session, buffer);
+            }
+            Wanted::Stop => {
+                return;
+            }
+        }
     }
-    session
 }
 
 pub fn run() {
+    if 1 < os::arg_count() {
+        io::write_all(
+            STDERR_FILENO,
+            b"flowrun: words after the command are not taken\n",
+        );
+    }
     let mut file = [0u8; 2561];
     let length = read_chart(&mut file);
     let mut texts = io::large_buffer();
     let out: &mut [u8] = &mut texts;
     let greeted = reply::greet(Runner::new(), &file[..length], out);
     let runner = greeted.runner;
-    let mut session = Session {
-        lines: 0,
-        at: 0,
-        waiting: greeted.length,
-        open: true,
-    };
+    let size = greeted.length;
+    if !write(&out[..size]) {
+        return;
+    }
     if greeted.loaded {
         let mut input = io::large_buffer();
-        session = serve(runner, session, &mut input, out);
+        serve(runner, &mut input, out);
     }
-    flush(session, out);
 }

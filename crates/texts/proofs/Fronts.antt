@@ -1,11 +1,15 @@
 -- A text in a buffer with room or without (no-room, with-room), and so a clause, a sentence and a long sentence. Assumes nothing.
 use Prim.Native.Nat.{ℕ, _+_, _-_, _≤_, _<_}
-use mathlib.Core.Path.{_≡_, refl, ap, _∙_}
+use mathlib.Core.Path.{_≡_, refl, ap, sym, _∙_}
 use mathlib.Core.List.{List, [], _∷_, _++_}
+use mathlib.Core.Bool.{Bool, true, false, cond}
 use native.Mathlib.Omega.{arith}
+use lib.Dec.{ltb}
 use lib.ListN.{length, take, drop, set, length-append}
+use lib.Seq.{take-append-seam}
 use borrow.Author.Tests.{lt-ltb, le-ltb}
 use borrow.Rule.Slice.PartMut.{putMid}
+use Rattle.io.specs.Counts.{Counts}
 use Rattle.lists.proofs.Fronts.{front, then-front, end-front}
 use Rattle.texts.specs.Printing.{decimal, clause, sentence, longSentence, printed, printedLength}
 
@@ -18,6 +22,18 @@ module _ (text out : List ℕ) where
       → (r ≡ printedLength text (length out)) × (after ≡ printed text out)
   unfolding printed printedLength
   with-room r after l e f = (rw (le-ltb (length out) 64 l) e, rw (le-ltb (length out) 64 l) f)
+
+  -- What was printed is at the front.
+  pub printed-counts : length (printed text out) ≡ length out → Counts (printedLength text (length out)) (printed text out)
+  unfolding printed printedLength
+  printed-counts e = by (ltb (length out) 64) e
+    where
+      by : (t : Bool) → length (cond t out (text ++ drop (length text) out)) ≡ length out → Counts (cond t 0 (length text)) (cond t out (text ++ drop (length text) out))
+      by true q = (omega arith, refl)
+      by false q = (
+        omega (arith, length-append text (drop (length text) out)),
+        ap length (sym (take-append-seam text (drop (length text) out))),
+      )
 
 -- A clause: the word, then the digits in the rest.
 pub clause-front : (w ds out one part : List ℕ) (n a k count : ℕ) → ds ≡ decimal n → one ≡ front w out → a ≡ length w → k ≡ length one - a → part ≡ front ds (take k (drop a one))

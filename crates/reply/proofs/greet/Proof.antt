@@ -29,7 +29,7 @@ returns : tie.Need-returns
 returns c =
     let p = c .before .before .print-chart in
     let l = c .before .before .before .before .before .before .before .before .load in
-    greets-chart _ (l .result .told) (l .result .runner) (l .ensures) (p .result) _ _ _ _ (c .before .before .before .before .before .told .given .1) (p .ensures)
+    greets-chart _ (l .result .told) (l .result .runner) (l .ensures) (p .result) _ _ (search needs) _ _ (c .before .before .before .before .before .told .given .1) (p .ensures)
 
 same-length-2 : tie.Need-same-length-2
 same-length-2 c = search needs
@@ -38,7 +38,7 @@ returns-2 : tie.Need-returns-2
 returns-2 c =
     let p = c .before .before .print-refused in
     let l = c .before .before .before .before .before .before .before .before .before .load in
-    greets-refusal _ (l .result .told) (l .result .runner) (l .ensures) (p .result) _ _ _ (c .before .before .before .before .before .before .told2 .given .1) (p .ensures)
+    greets-refusal _ (l .result .told) (l .result .runner) (l .ensures) (p .result) _ _ (search needs) _ (c .before .before .before .before .before .before .told2 .given .1) (p .ensures)
 
 pub greet-spec : {M : Type 1} → statement M
 greet-spec =

@@ -1,76 +1,108 @@
--- `serve` counts its turns down.
-use mathlib.Core.Path.{_≡_, sym}
-use lib.ListN.{length}
-use lib.Seq.{length-take-le}
-use borrow.Author.Needs.{needs}
 use Rattle.serve.proofs.serve.Statement.{statement}
 use Rattle.serve.proofs.serve.Tie as tie
+use Rattle.serve.proofs.serve.Reads as reads
+use Rattle.serve.proofs.serve.Lts as lts
+use Rattle.serve.proofs.read.Reads as read-reads
+use Rattle.serve.proofs.write.Reads as write-reads
+use Rattle.transcript.proofs.turn.Reads as turn-reads
 
 abbrev Inv-loop : tie.InvT-loop
-Inv-loop runner session₀ input₀ out₀ carry₀ turns₀ session input out carry turns = (length input ≡ length input₀) × (length out ≡ length out₀)
+Inv-loop runner buffer₀ out₀ session₀ turns₀ buffer out session turns = ?
 
 abbrev μ-loop : tie.MeasureT-loop
-μ-loop runner session₀ input₀ out₀ carry₀ turns₀ session input out carry turns = turns
+μ-loop runner buffer₀ out₀ session₀ turns₀ buffer out session turns = ?
 
-new-requires : tie.Need-new-requires Inv-loop μ-loop
-new-requires c κs = search needs
-
+-- src/lib.rt:77:5
 loop-holds : tie.Need-loop-holds Inv-loop μ-loop
-loop-holds c = search needs
+loop-holds c = ?
 
-flush-requires : tie.Need-flush-requires Inv-loop μ-loop
-flush-requires c κs = search needs
-
-same-length : tie.Need-same-length Inv-loop μ-loop
-same-length c = search needs
-
-same-length-2 : tie.Need-same-length-2 Inv-loop μ-loop
-same-length-2 c = search needs
-
-returns : tie.Need-returns Inv-loop μ-loop
-returns c = search needs
-
-fill-requires : tie.Need-fill-requires Inv-loop μ-loop
-fill-requires c κs = search needs
-
-slice-reshare-prefix-piece : tie.Need-slice-reshare-prefix-piece Inv-loop μ-loop
-slice-reshare-prefix-piece c = search needs
-
-slice-aggregate-piece : tie.Need-slice-aggregate-piece Inv-loop μ-loop
-slice-aggregate-piece c = sym (length-take-le _ _ (search needs))
-
-take-input-requires : tie.Need-take-input-requires Inv-loop μ-loop
-take-input-requires c κs = search needs
-
-same-length-3 : tie.Need-same-length-3 Inv-loop μ-loop
-same-length-3 c = search needs
-
-same-length-4 : tie.Need-same-length-4 Inv-loop μ-loop
-same-length-4 c = search needs
-
-returns-2 : tie.Need-returns-2 Inv-loop μ-loop
-returns-2 c = search needs
-
-unfinished-requires : tie.Need-unfinished-requires Inv-loop μ-loop
-unfinished-requires c κs = search needs
-
+-- src/lib.rt:78:9
 sub-turns : tie.Need-sub-turns Inv-loop μ-loop
-sub-turns c = search needs
+sub-turns c = ?
 
+-- src/lib.rt:79:13
+turn-requires : tie.Need-turn-requires Inv-loop μ-loop
+turn-requires c κs = ?
+
+-- src/lib.rt:85:27
+enum-told : tie.Need-enum-told Inv-loop μ-loop
+enum-told c = ?
+
+-- src/lib.rt:85:27
+slice-reshare-prefix-write : tie.Need-slice-reshare-prefix-write Inv-loop μ-loop
+slice-reshare-prefix-write c = ?
+
+-- src/lib.rt:85:27
+slice-aggregate-write : tie.Need-slice-aggregate-write Inv-loop μ-loop
+slice-aggregate-write c = ?
+
+-- src/lib.rt:85:21
+write-requires : tie.Need-write-requires Inv-loop μ-loop
+write-requires c κs = ?
+
+-- src/lib.rt:86:21
+same-length : tie.Need-same-length Inv-loop μ-loop
+same-length c = ?
+
+-- src/lib.rt:86:21
+same-length-2 : tie.Need-same-length-2 Inv-loop μ-loop
+same-length-2 c = ?
+
+-- src/lib.rt:86:21
+returns : tie.Need-returns Inv-loop μ-loop
+returns c = ?
+
+-- src/lib.rt:77:5
 loop-less : tie.Need-loop-less Inv-loop μ-loop
-loop-less c = search needs
+loop-less c = ?
 
+-- src/lib.rt:77:5
 loop-again : tie.Need-loop-again Inv-loop μ-loop
-loop-again c = search needs
+loop-again c = ?
 
+-- src/lib.rt:90:41
+enum-told-2 : tie.Need-enum-told-2 Inv-loop μ-loop
+enum-told-2 c = ?
+
+-- src/lib.rt:90:17
+read-requires : tie.Need-read-requires Inv-loop μ-loop
+read-requires c κs = ?
+
+-- src/lib.rt:77:5
+loop-less-2 : tie.Need-loop-less-2 Inv-loop μ-loop
+loop-less-2 c = ?
+
+-- src/lib.rt:77:5
+loop-again-2 : tie.Need-loop-again-2 Inv-loop μ-loop
+loop-again-2 c = ?
+
+-- src/lib.rt:93:17
+enum-told-3 : tie.Need-enum-told-3 Inv-loop μ-loop
+enum-told-3 c = ?
+
+-- src/lib.rt:93:17
+same-length-3 : tie.Need-same-length-3 Inv-loop μ-loop
+same-length-3 c = ?
+
+-- src/lib.rt:93:17
+same-length-4 : tie.Need-same-length-4 Inv-loop μ-loop
+same-length-4 c = ?
+
+-- src/lib.rt:93:17
+returns-2 : tie.Need-returns-2 Inv-loop μ-loop
+returns-2 c = ?
+
+-- src/lib.rt:69:1
 same-length-5 : tie.Need-same-length-5 Inv-loop μ-loop
-same-length-5 c = search needs
+same-length-5 c = ?
 
+-- src/lib.rt:69:1
 same-length-6 : tie.Need-same-length-6 Inv-loop μ-loop
-same-length-6 c = search needs
+same-length-6 c = ?
 
+-- src/lib.rt:69:1
 returns-3 : tie.Need-returns-3 Inv-loop μ-loop
-returns-3 c = search needs
+returns-3 c = ?
 
 pub serve-spec : {M : Type 1} → statement M
 serve-spec =
@@ -78,23 +110,26 @@ serve-spec =
     (tie.spec
     Inv-loop
     μ-loop
-    new-requires
     loop-holds
-    flush-requires
+    sub-turns
+    turn-requires
+    enum-told
+    slice-reshare-prefix-write
+    slice-aggregate-write
+    write-requires
     same-length
     same-length-2
     returns
-    fill-requires
-    slice-reshare-prefix-piece
-    slice-aggregate-piece
-    take-input-requires
+    loop-less
+    loop-again
+    enum-told-2
+    read-requires
+    loop-less-2
+    loop-again-2
+    enum-told-3
     same-length-3
     same-length-4
     returns-2
-    unfinished-requires
-    sub-turns
-    loop-less
-    loop-again
     same-length-5
     same-length-6
     returns-3)

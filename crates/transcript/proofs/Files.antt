@@ -1,0 +1,34 @@
+-- A chart file that is too long is refused by its length alone, and so is its beginning. Assumes nothing.
+use Prim.Native.Nat.{ℕ, _<_}
+use mathlib.Core.Path.{_≡_, refl, ap, sym, _∙_}
+use mathlib.Core.List.{List, []}
+use mathlib.Core.Bool.{Bool, false}
+use native.Mathlib.Decide.{decLt}
+use native.Mathlib.Omega.{arith}
+use lib.ListN.{length, take, length-take}
+use lib.Seq.{take-all}
+use borrow.Author.Tests.{ne-eqb}
+use Rattle.format.specs.File.{lengthRule, refusal, checkFile}
+use Rattle.format.specs.declared.Checked.the-variants.{Refused}
+use Rattle.runner.specs.State.{newRunner}
+use Rattle.runner.specs.Calls.{fileVerdict, check, carried, call}
+use Rattle.runner.specs.Calls as calls
+use Rattle.reply.specs.Reply.{loaded}
+use Rattle.transcript.specs.Claims.{FirstBytes}
+
+too-long : (file : List ℕ) → 2560 < length file → checkFile file ≡ Refused (refusal 1 0)
+unfolding checkFile
+too-long file l =
+    rw (ne-eqb (length file) 1024 (λ e. omega arith), ne-eqb (length file) 1536 (λ e. omega arith), ne-eqb (length file) 2048 (λ e. omega arith), ne-eqb (length file) 2560 (λ e. omega arith))
+    refl
+
+refuses : (file : List ℕ) → 2560 < length file → loaded file newRunner ≡ record { told = record { reply = calls.refused 1 0; buffer = [] }; next = newRunner }
+unfolding call check carried fileVerdict newRunner
+refuses file l = rw (too-long file l) refl
+
+pub first-bytes : FirstBytes
+first-bytes file = by (decLt 2560 (length file))
+  where
+    by : Dec (2560 < length file) → loaded (take 2561 file) newRunner ≡ loaded file newRunner
+    by (yes l) = refuses (take 2561 file) (omega (arith, length-take 2561 file)) ∙ sym (refuses file l)
+    by (no l) = ap (λ (f : List ℕ). loaded f newRunner) (take-all 2561 file (omega arith))

@@ -1,0 +1,96 @@
+-- `turn` feeds the bytes at hand, and keeps what has not ended.
+use native.Mathlib.Omega.{arith}
+use denote.Ref.{now}
+use Rattle.transcript.specs.Session.{wantedOf}
+use Rattle.transcript.proofs.States.{fits, turn-writes, turn-stops, turn-reads}
+use borrow.Author.Needs.{needs}
+use Rattle.transcript.proofs.turn.Statement.{statement}
+use Rattle.transcript.proofs.turn.Tie as tie
+use Rattle.transcript.proofs.turn.Reads as reads
+use Rattle.transcript.proofs.turn.Lts as lts
+use Rattle.transcript.proofs.feed.Reads as feed-reads
+use Rattle.transcript.proofs.keep.Reads as keep-reads
+use Rattle.transcript.proofs.lesser.Reads as lesser-reads
+
+lesser-requires : tie.Need-lesser-requires
+lesser-requires c κs = search needs
+
+lesser-requires-2 : tie.Need-lesser-requires-2
+lesser-requires-2 c κs = search needs
+
+sub-feed : tie.Need-sub-feed
+sub-feed c = search needs
+
+part-feed-start : tie.Need-part-feed-start
+part-feed-start c = search needs
+
+part-feed-end : tie.Need-part-feed-end
+part-feed-end c = search needs
+
+feed-requires : tie.Need-feed-requires
+feed-requires c κs = search needs
+
+add-next : tie.Need-add-next
+add-next c =
+    let a = c .before .before .before .before .before .before .before .before .before .before .before .args in
+    omega (arith, fits (a .runner) (now (a .buffer)) (now (a .out)) (c .before .before .before .feed .last .1 .1 .1 .1 .0) (a .session) (c .before .before .before .before .before .before .before .before .lesser .result) (c .before .before .before .before .before .before .before .lesser2 .result) (c .before .before .before .before .before .before .before .before .lesser .ensures) (c .before .before .before .before .before .before .before .lesser2 .ensures) (c .before .before .before .feed .result) (c .before .before .before .feed .ensures))
+
+same-length : tie.Need-same-length
+same-length c = search needs
+
+same-length-2 : tie.Need-same-length-2
+same-length-2 c = search needs
+
+returns : tie.Need-returns
+returns c =
+    let a = c .before .before .before .before .before .before .before .before .before .before .before .args in
+    turn-writes (a .runner) (now (a .buffer)) (now (a .out)) (c .before .before .before .feed .last .1 .1 .1 .1 .0) (a .session) (c .before .before .before .before .before .before .before .before .lesser .result) (c .before .before .before .before .before .before .before .lesser2 .result) (c .before .before .before .before .before .before .before .before .lesser .ensures) (c .before .before .before .before .before .before .before .lesser2 .ensures) (c .before .before .before .feed .result) (c .before .before .before .feed .ensures) (c .if1 .taken) (search needs)
+
+same-length-3 : tie.Need-same-length-3
+same-length-3 c = search needs
+
+same-length-4 : tie.Need-same-length-4
+same-length-4 c = search needs
+
+returns-2 : tie.Need-returns-2
+unfolding wantedOf
+returns-2 c =
+    let a = c .before .before .before .before .before .before .before .before .before .before .before .before .args in
+    turn-stops (a .runner) (now (a .buffer)) (now (a .out)) (c .before .before .before .before .feed .last .1 .1 .1 .1 .0) (a .session) (c .before .before .before .before .before .before .before .before .before .lesser .result) (c .before .before .before .before .before .before .before .before .lesser2 .result) (c .before .before .before .before .before .before .before .before .before .lesser .ensures) (c .before .before .before .before .before .before .before .before .lesser2 .ensures) (c .before .before .before .before .feed .result) (c .before .before .before .before .feed .ensures) (omega (arith, c .before .if1 .left)) (c .if2 .taken)
+
+keep-requires : tie.Need-keep-requires
+keep-requires c κs = search needs
+
+same-length-5 : tie.Need-same-length-5
+same-length-5 c = search needs
+
+same-length-6 : tie.Need-same-length-6
+same-length-6 c = search needs
+
+returns-3 : tie.Need-returns-3
+unfolding wantedOf
+returns-3 c =
+    let a = c .before .before .before .before .before .before .before .before .before .before .before .before .before .before .before .before .args in
+    turn-reads (a .runner) (now (a .buffer)) (now (a .out)) (c .before .before .before .before .before .before .before .before .feed .last .1 .1 .1 .1 .0) (a .session) (c .before .before .before .before .before .before .before .before .before .before .before .before .before .lesser .result) (c .before .before .before .before .before .before .before .before .before .before .before .before .lesser2 .result) (c .before .before .before .before .before .before .before .before .before .before .before .before .before .lesser .ensures) (c .before .before .before .before .before .before .before .before .before .before .before .before .lesser2 .ensures) (c .before .before .before .before .before .before .before .before .feed .result) (c .before .before .before .before .before .before .before .before .feed .ensures) (omega (arith, c .before .before .before .before .before .if1 .left)) (c .before .before .before .before .if2 .left) _ (c .before .before .keep .result) (c .before .before .keep .ensures)
+
+pub turn-spec : {M : Type 1} → statement M
+turn-spec =
+    tie.close
+    (tie.spec
+    lesser-requires
+    lesser-requires-2
+    sub-feed
+    part-feed-start
+    part-feed-end
+    feed-requires
+    add-next
+    same-length
+    same-length-2
+    returns
+    same-length-3
+    same-length-4
+    returns-2
+    keep-requires
+    same-length-5
+    same-length-6
+    returns-3)
