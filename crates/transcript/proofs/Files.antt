@@ -14,7 +14,7 @@ use Rattle.runner.specs.State.{newRunner}
 use Rattle.runner.specs.Calls.{fileVerdict, check, carried, call}
 use Rattle.runner.specs.Calls as calls
 use Rattle.reply.specs.Reply.{loaded}
-use Rattle.transcript.specs.Claims.{FirstBytes}
+use Rattle.transcript.specs.Claims.{readOfFile, FirstBytes}
 
 too-long : (file : List ℕ) → 2560 < length file → checkFile file ≡ Refused (refusal 1 0)
 unfolding checkFile
@@ -26,9 +26,13 @@ refuses : (file : List ℕ) → 2560 < length file → loaded file newRunner ≡
 unfolding call check carried fileVerdict newRunner
 refuses file l = rw (too-long file l) refl
 
-pub first-bytes : FirstBytes
-first-bytes file = by (decLt 2560 (length file))
+-- Any beginning that is longer than a chart file can be.
+first-of : (n : ℕ) → 2560 < n → (file : List ℕ) → loaded (take n file) newRunner ≡ loaded file newRunner
+first-of n m file = by (decLt 2560 (length file))
   where
-    by : Dec (2560 < length file) → loaded (take 2561 file) newRunner ≡ loaded file newRunner
-    by (yes l) = refuses (take 2561 file) (omega (arith, length-take 2561 file)) ∙ sym (refuses file l)
-    by (no l) = ap (λ (f : List ℕ). loaded f newRunner) (take-all 2561 file (omega arith))
+    by : Dec (2560 < length file) → loaded (take n file) newRunner ≡ loaded file newRunner
+    by (yes l) = refuses (take n file) (omega (arith, length-take n file)) ∙ sym (refuses file l)
+    by (no l) = ap (λ (f : List ℕ). loaded f newRunner) (take-all n file (omega arith))
+
+pub first-bytes : FirstBytes
+first-bytes file = first-of readOfFile (omega arith) file

@@ -59,6 +59,9 @@ abbrev pub WritesEnd : Type 0
 WritesEnd =
     (file : List ℕ) (room : ℕ) (s s′ : State) (text : List ℕ) → turn (holder file) room s ≡ write text s′ → length (s′ .bytes) < length (s .bytes)
 
--- "file length isn't 1,024, 1,536, 2,048 or 2,560": the first 2,561 bytes of a chart file say whether it is too long, so no more are read.
+-- So many bytes of a chart file are read at most. "file length isn't 1,024, 1,536, 2,048 or 2,560": that is enough to tell that a file is too long.
+abbrev pub readOfFile : ℕ
+readOfFile = 2561
+
 abbrev pub FirstBytes : Type 0
-FirstBytes = (file : List ℕ) → loaded (take 2561 file) newRunner ≡ loaded file newRunner
+FirstBytes = (file : List ℕ) → loaded (take readOfFile file) newRunner ≡ loaded file newRunner

@@ -1,3 +1,9 @@
+-- `read_file` reads behind what it has, which fits.
+use Prim.Native.Nat.{_-_, _≤_}
+use mathlib.Core.Path.{_≡_, sym}
+use lib.ListN.{length}
+use lib.Seq.{length-take-le}
+use borrow.Author.Needs.{needs}
 use Rattle.serve.proofs.read_file.Statement.{statement}
 use Rattle.serve.proofs.read_file.Tie as tie
 use Rattle.serve.proofs.read_file.Reads as reads
@@ -7,90 +13,70 @@ use Rattle.libc.proofs.read.Reads as read-reads
 use Rattle.os.proofs.fail.Reads as fail-reads
 
 abbrev Inv-loop : tie.InvT-loop
-Inv-loop fd buf₀ length₀ t6 buf length = ?
+Inv-loop fd buf₀ size₀ t6 buf size = (size ≤ length buf) × (length buf ≡ length buf₀)
 
 abbrev μ-loop : tie.MeasureT-loop
-μ-loop fd buf₀ length₀ t6 buf length = ?
+μ-loop fd buf₀ size₀ t6 buf size = length buf - size
 
--- src/lib.rt:32:5
 loop-holds : tie.Need-loop-holds Inv-loop μ-loop
-loop-holds c = ?
+loop-holds c = search needs
 
--- src/lib.rt:33:34
 sub-read : tie.Need-sub-read Inv-loop μ-loop
-sub-read c = ?
+sub-read c = search needs
 
--- src/lib.rt:33:34
 part-read-start : tie.Need-part-read-start Inv-loop μ-loop
-part-read-start c = ?
+part-read-start c = search needs
 
--- src/lib.rt:33:34
 part-read-end : tie.Need-part-read-end Inv-loop μ-loop
-part-read-end c = ?
+part-read-end c = search needs
 
--- src/lib.rt:33:13
 read-requires : tie.Need-read-requires Inv-loop μ-loop
-read-requires c κs = ?
+read-requires c κs = search needs
 
--- src/lib.rt:35:22
 slice-aggregate-fail : tie.Need-slice-aggregate-fail Inv-loop μ-loop
-slice-aggregate-fail c = ?
+slice-aggregate-fail c = search needs
 
--- src/lib.rt:35:13
 fail-requires : tie.Need-fail-requires Inv-loop μ-loop
-fail-requires c κs = ?
+fail-requires c κs = search needs
 
--- src/lib.rt:36:13
 same-length : tie.Need-same-length Inv-loop μ-loop
-same-length c = ?
+same-length c = search needs
 
--- src/lib.rt:36:13
 returns : tie.Need-returns Inv-loop μ-loop
-returns c = ?
+returns c = search needs
 
--- src/lib.rt:38:35
 sub-count : tie.Need-sub-count Inv-loop μ-loop
-sub-count c = ?
+sub-count c = search needs
 
--- src/lib.rt:38:35
 part-count-start : tie.Need-part-count-start Inv-loop μ-loop
-part-count-start c = ?
+part-count-start c = search needs
 
--- src/lib.rt:38:35
 part-count-end : tie.Need-part-count-end Inv-loop μ-loop
-part-count-end c = ?
+part-count-end c = search needs
 
--- src/lib.rt:38:13
 count-requires : tie.Need-count-requires Inv-loop μ-loop
-count-requires c κs = ?
+count-requires c κs = search needs
 
--- src/lib.rt:42:9
 add-length : tie.Need-add-length Inv-loop μ-loop
-add-length c = ?
+add-length c = search needs
 
--- src/lib.rt:32:5
 loop-less : tie.Need-loop-less Inv-loop μ-loop
-loop-less c = ?
+loop-less c = search needs
 
--- src/lib.rt:32:5
 loop-again : tie.Need-loop-again Inv-loop μ-loop
-loop-again c = ?
+loop-again c = search needs
 
--- src/lib.rt:28:1
 same-length-2 : tie.Need-same-length-2 Inv-loop μ-loop
-same-length-2 c = ?
+same-length-2 c = search needs
 
--- src/lib.rt:28:1
 returns-2 : tie.Need-returns-2 Inv-loop μ-loop
-returns-2 c = ?
+returns-2 c = (search needs, sym (length-take-le _ _ (search needs)))
 
--- src/lib.rt:28:1
 same-length-3 : tie.Need-same-length-3 Inv-loop μ-loop
-same-length-3 c = ?
+same-length-3 c = search needs
 
--- src/lib.rt:28:1
 returns-3 : tie.Need-returns-3 Inv-loop μ-loop
-returns-3 c = ?
+returns-3 c = (search needs, sym (length-take-le _ _ (search needs)))
 
 pub read-file-spec : {M : Type 1} → statement M
 read-file-spec =

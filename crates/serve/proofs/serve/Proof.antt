@@ -1,3 +1,7 @@
+-- `serve` counts its turns down.
+use mathlib.Core.Path.{_≡_}
+use lib.ListN.{length}
+use borrow.Author.Needs.{needs}
 use Rattle.serve.proofs.serve.Statement.{statement}
 use Rattle.serve.proofs.serve.Tie as tie
 use Rattle.serve.proofs.serve.Reads as reads
@@ -7,102 +11,79 @@ use Rattle.serve.proofs.write.Reads as write-reads
 use Rattle.transcript.proofs.turn.Reads as turn-reads
 
 abbrev Inv-loop : tie.InvT-loop
-Inv-loop runner buffer₀ out₀ session₀ turns₀ buffer out session turns = ?
+Inv-loop runner buffer₀ out₀ session₀ turns₀ buffer out session turns = (length buffer ≡ length buffer₀) × (length out ≡ length out₀)
 
 abbrev μ-loop : tie.MeasureT-loop
-μ-loop runner buffer₀ out₀ session₀ turns₀ buffer out session turns = ?
+μ-loop runner buffer₀ out₀ session₀ turns₀ buffer out session turns = turns
 
--- src/lib.rt:77:5
 loop-holds : tie.Need-loop-holds Inv-loop μ-loop
-loop-holds c = ?
+loop-holds c = search needs
 
--- src/lib.rt:78:9
 sub-turns : tie.Need-sub-turns Inv-loop μ-loop
-sub-turns c = ?
+sub-turns c = search needs
 
--- src/lib.rt:79:13
 turn-requires : tie.Need-turn-requires Inv-loop μ-loop
-turn-requires c κs = ?
+turn-requires c κs = search needs
 
--- src/lib.rt:85:27
 enum-told : tie.Need-enum-told Inv-loop μ-loop
-enum-told c = ?
+enum-told c = search needs
 
--- src/lib.rt:85:27
 slice-reshare-prefix-write : tie.Need-slice-reshare-prefix-write Inv-loop μ-loop
-slice-reshare-prefix-write c = ?
+slice-reshare-prefix-write c = search needs
 
--- src/lib.rt:85:27
 slice-aggregate-write : tie.Need-slice-aggregate-write Inv-loop μ-loop
-slice-aggregate-write c = ?
+slice-aggregate-write c = search needs
 
--- src/lib.rt:85:21
 write-requires : tie.Need-write-requires Inv-loop μ-loop
-write-requires c κs = ?
+write-requires c κs = search needs
 
--- src/lib.rt:86:21
 same-length : tie.Need-same-length Inv-loop μ-loop
-same-length c = ?
+same-length c = search needs
 
--- src/lib.rt:86:21
 same-length-2 : tie.Need-same-length-2 Inv-loop μ-loop
-same-length-2 c = ?
+same-length-2 c = search needs
 
--- src/lib.rt:86:21
 returns : tie.Need-returns Inv-loop μ-loop
-returns c = ?
+returns c = search needs
 
--- src/lib.rt:77:5
 loop-less : tie.Need-loop-less Inv-loop μ-loop
-loop-less c = ?
+loop-less c = search needs
 
--- src/lib.rt:77:5
 loop-again : tie.Need-loop-again Inv-loop μ-loop
-loop-again c = ?
+loop-again c = search needs
 
--- src/lib.rt:90:41
 enum-told-2 : tie.Need-enum-told-2 Inv-loop μ-loop
-enum-told-2 c = ?
+enum-told-2 c = search needs
 
--- src/lib.rt:90:17
 read-requires : tie.Need-read-requires Inv-loop μ-loop
-read-requires c κs = ?
+read-requires c κs = search needs
 
--- src/lib.rt:77:5
 loop-less-2 : tie.Need-loop-less-2 Inv-loop μ-loop
-loop-less-2 c = ?
+loop-less-2 c = search needs
 
--- src/lib.rt:77:5
 loop-again-2 : tie.Need-loop-again-2 Inv-loop μ-loop
-loop-again-2 c = ?
+loop-again-2 c = search needs
 
--- src/lib.rt:93:17
 enum-told-3 : tie.Need-enum-told-3 Inv-loop μ-loop
-enum-told-3 c = ?
+enum-told-3 c = search needs
 
--- src/lib.rt:93:17
 same-length-3 : tie.Need-same-length-3 Inv-loop μ-loop
-same-length-3 c = ?
+same-length-3 c = search needs
 
--- src/lib.rt:93:17
 same-length-4 : tie.Need-same-length-4 Inv-loop μ-loop
-same-length-4 c = ?
+same-length-4 c = search needs
 
--- src/lib.rt:93:17
 returns-2 : tie.Need-returns-2 Inv-loop μ-loop
-returns-2 c = ?
+returns-2 c = search needs
 
--- src/lib.rt:69:1
 same-length-5 : tie.Need-same-length-5 Inv-loop μ-loop
-same-length-5 c = ?
+same-length-5 c = search needs
 
--- src/lib.rt:69:1
 same-length-6 : tie.Need-same-length-6 Inv-loop μ-loop
-same-length-6 c = ?
+same-length-6 c = search needs
 
--- src/lib.rt:69:1
 returns-3 : tie.Need-returns-3 Inv-loop μ-loop
-returns-3 c = ?
+returns-3 c = search needs
 
 pub serve-spec : {M : Type 1} → statement M
 serve-spec =
