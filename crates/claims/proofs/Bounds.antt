@@ -48,15 +48,16 @@ held-within-bounds r g h =
     }
 
 pub states-within-bounds : StatesWithinBounds
-states-within-bounds =
-    ((λ r g e.
-        let u = runs-in-range r g e in
-        record {
-          at = omega arith;
-          mode = omega arith;
-          below = omega arith;
-          limit = omega arith;
-          classes = λ v. let c = u .classes v in omega arith;
-          counter = omega arith;
-        }),
-    (λ r g e. let s = ends-in-range r g e in omega arith))
+states-within-bounds = (
+  (λ r g e.
+      let u = runs-in-range r g e in
+      record {
+        at = omega arith;
+        mode = omega arith;
+        below = omega arith;
+        limit = omega arith;
+        classes = λ v. let c = u .classes v in omega arith;
+        counter = omega arith;
+      }),
+  (λ r g e. let s = ends-in-range r g e in omega arith),
+)

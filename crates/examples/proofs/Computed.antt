@@ -28,7 +28,6 @@ itself x l = let e : x + (2 ^ 32 - x) ≡ 2 ^ 32 = omega arith in ap (λ (n : �
 
 -- Row by row.
 infixr 5 _and_
-
 _and_ : {a b : Given} {xs ys : List Given} → a ≡ b → xs ≡ ys → a ∷ xs ≡ b ∷ ys
 p and q = cc
 
@@ -38,10 +37,11 @@ ends-with v = replies (chart 1 2 ∷ done ∷ ended 2 ∷ ending (valued v) 2 �
 
 pub marked-cases : MarkedCases
 unfolding runs-open gives expected markedCases ends-with
-marked-cases x l =
-    (refl,
-    refl and refl and refl and refl and refl and refl and refl and refl and refl
-    and ap ends-with (itself x l)
-    and refl and refl and refl and refl and refl and refl and refl
-    and ap number all-ones
-    and refl)
+marked-cases x l = (
+  refl,
+  refl and refl and refl and refl and refl and refl and refl and refl and refl
+      and ap ends-with (itself x l)
+      and refl and refl and refl and refl and refl and refl and refl
+      and ap number all-ones
+      and refl,
+)

@@ -41,8 +41,9 @@ secrecy-is-met = (on-both chartA (1 ∷ 2 ∷ []) refl refl refl refl, first-wit
 
 pub answering-is-met : AnsweringIsMet
 unfolding runs-open
-answering-is-met =
-    (on-both chartE (3 ∷ []) refl refl refl refl,
-    (advance 2 ∷ answer ∷ [], (tt, (tt, tt)), List·Memᴰ·tail (List·Memᴰ·head refl)),
-    (tt, (not-done, (not-done, (tt, (tt, (tt, (not-done, (tt, tt)))))))),
-    refl)
+answering-is-met = (
+  on-both chartE (3 ∷ []) refl refl refl refl,
+  (advance 2 ∷ answer ∷ [], (tt, (tt, tt)), List·Memᴰ·tail (List·Memᴰ·head refl)),
+  (tt, (not-done, (not-done, (tt, (tt, (tt, (not-done, (tt, tt)))))))),
+  refl,
+)

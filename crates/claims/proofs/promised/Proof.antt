@@ -10,27 +10,27 @@ use Rattle.claims.proofs.promised.Tie as tie
 
 returns : tie.Need-returns
 returns c = (
-      demand3,
-      one-file,
-      refusal-changes-nothing,
-      advances-join,
-      no-operation-stops,
-      counts-boxes,
-      limit-ends,
-      within-limit,
-      cleared,
-      held-obeys,
-      runs-in-range,
-      ends-in-range,
-      loaded-is-written,
-      written-is-loaded,
-      replies-distinct,
-      answers-at-the-limit,
-      runs-within-bounds,
-      written-into-exact-room,
-      held-within-bounds,
-      states-within-bounds,
-    )
+  demand3,
+  one-file,
+  refusal-changes-nothing,
+  advances-join,
+  no-operation-stops,
+  counts-boxes,
+  limit-ends,
+  within-limit,
+  cleared,
+  held-obeys,
+  runs-in-range,
+  ends-in-range,
+  loaded-is-written,
+  written-is-loaded,
+  replies-distinct,
+  answers-at-the-limit,
+  runs-within-bounds,
+  written-into-exact-room,
+  held-within-bounds,
+  states-within-bounds,
+)
 
 pub promised-spec : {M : Type 1} → statement M
 promised-spec = tie.close (tie.spec returns)

@@ -7,18 +7,18 @@ use Rattle.examples.proofs.promised.Tie as tie
 
 returns : tie.Need-returns
 returns c = (
-      file-examples,
-      marked-cases,
-      high-water-is-not-secret,
-      another-limit-is-told,
-      bare-answers-more,
-      smaller-limit-answers-less,
-      advances-part-at-the-end,
-      no-load-during-a-run,
-      another-load-is-told,
-      secrecy-is-met,
-      answering-is-met,
-    )
+  file-examples,
+  marked-cases,
+  high-water-is-not-secret,
+  another-limit-is-told,
+  bare-answers-more,
+  smaller-limit-answers-less,
+  advances-part-at-the-end,
+  no-load-during-a-run,
+  another-load-is-told,
+  secrecy-is-met,
+  answering-is-met,
+)
 
 pub promised-spec : {M : Type 1} → statement M
 promised-spec = tie.close (tie.spec returns)
