@@ -115,7 +115,8 @@ answers-as-high-water r r′ inputs allowed limit limit′ b v steps w ds qd =
     let from = begin-starts 2 inputs allowed limit r (b .accepted) ∙ starts-same r r′ 2 inputs allowed (effective limit) l c (b .limits) in
     let start = surveyed r′ inputs allowed l in
     let ends : EndsSo (high r′ inputs allowed l) v steps = subst (λ (x : Runner). EndsSo x v steps) from (list-ends (w .0) _ v steps (w .1) (w .2)) in
-    let last : final ds (begun 1 inputs allowed limit′ r′) ≡ run (asked ds) start = such-final ds _ qd ∙ ap (run (asked ds)) (begin-starts 1 inputs allowed limit′ r′ (b .accepted′)) in (
+    let starts = begin-starts 1 inputs allowed limit′ r′ (b .accepted′) in
+    let last : final ds (begun 1 inputs allowed limit′ r′) ≡ run (asked ds) start = such-final ds _ qd ∙ ap (run (asked ds)) starts in (
       (λ enough. subst (Accepted answer) (sym last) (ended-answers _ (run-ends (asked ds) start refl (effective-positive limit′) (omega arith)))),
       (λ over.
           let here : Accepted answer (run (asked ds) start) = subst (Accepted answer) last over in

@@ -25,7 +25,11 @@ file-fits : (file : List ℕ) (r : Runner) → Accepted (load file) r → length
 file-fits file r a = let f = accepted file (headerOf file) (accepted-file file r a) in omega (arith, f .long, f .fits)
 
 -- Whatever calls but another load came since.
-pub one-file-held : (r r′ : Runner) (file : List ℕ) (past past′ : List Call) → Accepted (load file) r → Accepted (load file) r′ → NoneSince file past r → NoneSince file past′ r′
+pub one-file-held : (r r′ : Runner) (file : List ℕ) (past past′ : List Call)
+    → Accepted (load file) r
+    → Accepted (load file) r′
+    → NoneSince file past r
+    → NoneSince file past′ r′
     → HoldOneChart (since file past r) (since file past′ r′)
 one-file-held r r′ file past past′ a a′ n n′ buffer room =
     let long : length file ≤ length buffer = omega (arith, file-fits file r a) in

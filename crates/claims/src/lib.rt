@@ -8,7 +8,9 @@ ghost use Rattle.claims.specs.Bounds.{AnswersAtTheLimit, RunsWithinBound
 
 // The claims of this crate. A claim counts where a contract holds it: without this function the theorems could be deleted, and nothing would fail.
 pub fn promised() -> bool
-    ensures { λ r. ⌜ Demand3 × OneFile × RefusalChangesNothing × AdvancesJoin × NoOperationStops × CountsBoxes × LimitEnds × WithinLimit × Cleared × HeldObeys × RunsInRange × EndsInRange × LoadedIsWritten × WrittenIsLoaded × RepliesDistinct × AnswersAtTheLimit × RunsWithinBounds × WrittenIntoExactRoom × HeldWithinBounds × StatesWithinBounds ⌝ }
+    ensures { λ r. ⌜ Demand3 × OneFile × RefusalChangesNothing × AdvancesJoin × NoOperationStops × CountsBoxes × LimitEnds × WithinLimit × Cleared
+        × HeldObeys × RunsInRange × EndsInRange × LoadedIsWritten × WrittenIsLoaded × RepliesDistinct
+        × AnswersAtTheLimit × RunsWithinBounds × WrittenIntoExactRoom × HeldWithinBounds × StatesWithinBounds ⌝ }
 {
     true
 }

@@ -1,11 +1,12 @@
 -- The tables hold by computation, but for two rows: the one bits of a large number, counted in halves, and a variable minus itself. Assumes nothing.
 use Prim.Native.Nat.{ℕ, _+_, _*_, _-_, _%_, _^_, _<_}
 use mathlib.Core.Path.{_≡_, refl, ap, _∙_}
-use mathlib.Core.List.{List, [], _∷_}
+use mathlib.Core.List.{List, [], _∷_, map}
 use native.Mathlib.Omega.{arith}
+use lib.ListN.{set}
 use lib.Count.{onesIn, ones, ones-cat}
 use Rattle.runner.specs.State.{valued}
-use Rattle.runner.specs.Calls.{Reply, done, chart, ended, ending}
+use Rattle.runner.specs.Calls.{done, chart, ended, ending}
 use Rattle.examples.specs.Files.{fileCases, FileExamples}
 use Rattle.examples.specs.Runs.{Given, replies, number, gives, expected, markedCases, MarkedCases}
 use Rattle.examples.proofs.Open.{files-open, runs-open}
@@ -26,22 +27,11 @@ all-ones = twice 16 65535 16 (omega arith) (twice 8 255 8 (omega arith) (twice 4
 itself : (x : ℕ) → x < 2 ^ 32 → (x + (2 ^ 32 - x)) % 2 ^ 32 ≡ 0
 itself x l = let e : x + (2 ^ 32 - x) ≡ 2 ^ 32 = omega arith in ap (λ (n : ℕ). n % 2 ^ 32) e
 
--- Row by row.
-infixr 5 _and_
-_and_ : {a b : Given} {xs ys : List Given} → a ≡ b → xs ≡ ys → a ∷ xs ≡ b ∷ ys
-p and q = cc
-
--- The replies of a run of chart D that ends with a value.
-ends-with : ℕ → Given
-ends-with v = replies (chart 1 2 ∷ done ∷ ended 2 ∷ ending (valued v) 2 ∷ [])
+-- What is expected but for those two rows: the value that chart D ends with, and the one bits.
+rows : ℕ → ℕ → ℕ → List Given
+rows x value bits =
+    set (set (map expected (markedCases x)) 9 (replies (chart 1 2 ∷ done ∷ ended 2 ∷ ending (valued value) 2 ∷ []))) 17 (number bits)
 
 pub marked-cases : MarkedCases
-unfolding runs-open gives expected markedCases ends-with
-marked-cases x l = (
-  refl,
-  refl and refl and refl and refl and refl and refl and refl and refl and refl
-      and ap ends-with (itself x l)
-      and refl and refl and refl and refl and refl and refl and refl
-      and ap number all-ones
-      and refl,
-)
+unfolding runs-open gives expected markedCases rows
+marked-cases x l = (refl, ap (λ (v : ℕ). rows x v (ones 4294967295)) (itself x l) ∙ ap (rows x 0) all-ones)

@@ -1,5 +1,5 @@
 -- The theorems of the examples, by computation.
 pub mod Open
 pub mod Computed
-pub mod Refuted
 pub mod Witnesses
+pub mod Refuted

@@ -1,4 +1,4 @@
--- The definitions that a load and a run go through, opened by one name.
+-- The definitions that a load and a run go through, by groups: a proof that opens the name of a group opens all that it names.
 use Rattle.boxes.specs.Bytes.{allZero}
 use Rattle.boxes.specs.Box.{operandRule, assignmentRule, decisionRule, haltRule, wellFormed}
 use Rattle.format.specs.Search.{firstFrom}
@@ -17,14 +17,34 @@ use Rattle.runner.specs.Calls.{fileVerdict, roomVerdict, check, says, leaves, a
 use Rattle.claims.specs.Lists.{tells, final}
 use Rattle.examples.specs.Charts.{chartA, chartB, chartC, chartD, headE, boxesE, chartE}
 
+unfoldable pub rules-open : Unit {0}
+unfolding allZero firstFrom weighted checksum isSealed operandRule assignmentRule decisionRule haltRule wellFormed headerRule placeRule checkFile
+rules-open = tt
+
 unfoldable pub files-open : Unit {0}
-unfolding allZero firstFrom weighted checksum isSealed operandRule assignmentRule decisionRule haltRule wellFormed headerRule placeRule checkFile chartA chartB chartC chartD headE boxesE chartE
+unfolding rules-open chartA chartB chartC chartD headE boxesE chartE
 files-open = tt
 
+unfoldable pub tables-open : Unit {0}
+unfolding joined tableOf headerBody bodyOf seal fileOf writing.writeBack
+tables-open = tt
+
+unfoldable pub values-open : Unit {0}
+unfolding decode boxAt readBy valueOfLeft quotient remainder valueOfBoth valueOf compares
+values-open = tt
+
+unfoldable pub marks-open : Unit {0}
+unfolding modeOf union targetMark decisionNotices counterMark haltNotices
+marks-open = tt
+
 unfoldable pub boxes-open : Unit {0}
-unfolding decode boxAt readBy valueOfLeft quotient remainder valueOfBoth valueOf compares modeOf union targetMark decisionNotices counterMark haltNotices act goesOn settle step run
+unfolding values-open marks-open act goesOn settle step run
 boxes-open = tt
 
+unfoldable pub begins-open : Unit {0}
+unfolding beginVerdict effective firstVars withheldMark withheldMarks firstMarks
+begins-open = tt
+
 unfoldable pub runs-open : Unit {0}
-unfolding files-open boxes-open joined tableOf headerBody bodyOf seal fileOf writing.writeBack beginVerdict effective firstVars withheldMark withheldMarks firstMarks newRunner endedWith dropped fileVerdict roomVerdict check says leaves after carried call tells final
+unfolding files-open tables-open boxes-open begins-open newRunner endedWith dropped fileVerdict roomVerdict check says leaves after carried call tells final
 runs-open = tt

@@ -14,8 +14,11 @@ use Rattle.examples.specs.Charts.{chartA, chartE}
 abbrev pub newly : List ℕ → Runner
 newly file = since file [] newRunner
 
+abbrev pub runBare : List ℕ → List Call
+runBare inputs = begin 0 inputs 0 0 ∷ advance 9 ∷ []
+
 abbrev pub used : List ℕ → List ℕ → Runner
-used file inputs = since file (begin 0 inputs 0 0 ∷ advance 9 ∷ []) newRunner
+used file inputs = since file (runBare inputs) newRunner
 
 -- A list of calls replies so, with no buffer lent.
 abbrev pub Replies : List Call → Runner → List Reply → Type 0
