@@ -6,3 +6,4 @@ pub mod Writes
 pub mod Shows
 pub mod RoundTrip
 pub mod Rules
+pub mod Bounds

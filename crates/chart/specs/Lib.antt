@@ -3,3 +3,4 @@ pub mod Chart
 pub mod WriteBack
 pub mod ShowBox
 pub mod Claims
+pub mod Bounds

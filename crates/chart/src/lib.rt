@@ -11,6 +11,8 @@ ghost use Rattle.format.specs.File.{blocksFor, refusal};
 ghost use Rattle.chart.specs.Chart.{boxBlocks, tableOf, headerBody, bodyOf, fileOf};
 ghost use Rattle.chart.specs.WriteBack.{writeBack, bufferAfter};
 ghost use Rattle.chart.specs.ShowBox.{showBox, IsPart};
+ghost use Rattle.chart.specs.Claims.{TellsLength, ReproducesFile, ReproducesChart, ObeysRules, ShowsTheBox, StaysInRange};
+ghost use Rattle.chart.specs.Bounds.{ExactRoom, LastBoxShown, LoadsWithinBounds};
 
 // What write back tells.
 pub enum Written {
@@ -143,4 +145,12 @@ pub fn show_box(file: &[u8], number: u32) -> &[u8]
         }
         Checked::Refused(_) => &file[0..0],
     }
+}
+
+// The claims of this crate. A claim counts where a contract holds it: without this function the theorems could be deleted, and nothing would fail.
+pub fn promised() -> bool
+    ensures { λ r. ⌜ TellsLength × ReproducesFile × ReproducesChart × ObeysRules × ShowsTheBox × StaysInRange
+        × ExactRoom × LastBoxShown × LoadsWithinBounds ⌝ }
+{
+    true
 }

@@ -19,7 +19,7 @@ use Rattle.runner.specs.Step.{run}
 use Rattle.runner.specs.Calls.{Call, load, begin, advance, answer, abandon, writeBack, running, ending, Told, Outcome, check, says, leaves, started, carried, call}
 use Rattle.runner.specs.Calls as calls
 use Rattle.runner.proofs.Runs.{run-add}
-use Rattle.claims.specs.Lists.{Accepted, tells, final, AllSuch, amount, asked}
+use Rattle.claims.specs.Lists.{Accepted, begun, tells, final, AllSuch, amount, asked}
 use Rattle.claims.specs.Demand3.{tellsValue, AnswersAsHighWater, Demand3}
 use Rattle.claims.proofs.Branches.{clash}
 use Rattle.claims.proofs.Carried.{call-done}
@@ -107,15 +107,16 @@ answer-value r v steps a w = ap (λ (o : Outcome). o .told) (call-done answer r 
 
 pub answers-as-high-water : AnswersAsHighWater
 unfolding high surveyed
-answers-as-high-water r r′ g g′ s inputs allowed limit limit′ el a a′ cs qs v steps told ds qd =
-    let p = begin-permits 2 inputs allowed limit r a in
-    let p′ = begin-permits 1 inputs allowed limit′ r′ a′ in
-    let c = one-chart r r′ g g′ (p .held) (p′ .held) s in
+answers-as-high-water r r′ inputs allowed limit limit′ b v steps w ds qd =
+    let p = begin-permits 2 inputs allowed limit r (b .accepted) in
+    let p′ = begin-permits 1 inputs allowed limit′ r′ (b .accepted′) in
+    let c = one-chart r r′ (b .made) (b .made′) (p .held) (p′ .held) (b .one-chart) in
     let l = effective limit′ in
-    let from = begin-starts 2 inputs allowed limit r a ∙ starts-same r r′ 2 inputs allowed (effective limit) l c el in
+    let from = begin-starts 2 inputs allowed limit r (b .accepted) ∙ starts-same r r′ 2 inputs allowed (effective limit) l c (b .limits) in
     let start = surveyed r′ inputs allowed l in
-    let ends : EndsSo (high r′ inputs allowed l) v steps = subst (λ (x : Runner). EndsSo x v steps) from (list-ends cs _ v steps qs told) in
-    let last : final ds (call (begin 1 inputs allowed limit′) r′ .next) ≡ run (asked ds) start = such-final ds _ qd ∙ ap (run (asked ds)) (begin-starts 1 inputs allowed limit′ r′ a′) in (
+    let ends : EndsSo (high r′ inputs allowed l) v steps = subst (λ (x : Runner). EndsSo x v steps) from (list-ends (w .0) _ v steps (w .1) (w .2)) in
+    let starts = begin-starts 1 inputs allowed limit′ r′ (b .accepted′) in
+    let last : final ds (begun 1 inputs allowed limit′ r′) ≡ run (asked ds) start = such-final ds _ qd ∙ ap (run (asked ds)) starts in (
       (λ enough. subst (Accepted answer) (sym last) (ended-answers _ (run-ends (asked ds) start refl (effective-positive limit′) (omega arith)))),
       (λ over.
           let here : Accepted answer (run (asked ds) start) = subst (Accepted answer) last over in

@@ -13,3 +13,4 @@ pub mod RunLaws
 pub mod ChartLaws
 pub mod Replies
 pub mod OneFile
+pub mod Bounds

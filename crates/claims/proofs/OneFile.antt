@@ -10,12 +10,13 @@ use Rattle.begin.specs.Begin.{effective}
 use Rattle.runner.specs.declared.Runner.{Runner}
 use Rattle.runner.specs.Calls.{Call, load}
 use Rattle.claims.specs.Lists.{Reached, then, Accepted, final}
-use Rattle.claims.specs.OneFile.{OneFile}
+use Rattle.claims.specs.Demand3.{HoldOneChart}
+use Rattle.claims.specs.OneFile.{since, NoneSince, OneFile}
 use Rattle.claims.proofs.Reachable.{accepted-file}
 use Rattle.claims.proofs.Secrecy.{noninterference}
 use Rattle.claims.proofs.ChartLaws.{loaded-is-written}
 
-reached-final : (cs : List Call) {r : Runner} → Reached r → Reached (final cs r)
+pub reached-final : (cs : List Call) {r : Runner} → Reached r → Reached (final cs r)
 unfolding final
 reached-final [] h = h
 reached-final (c ∷ cs) h = reached-final cs (then h c)
@@ -23,11 +24,27 @@ reached-final (c ∷ cs) h = reached-final cs (then h c)
 file-fits : (file : List ℕ) (r : Runner) → Accepted (load file) r → length file ≤ 2560
 file-fits file r a = let f = accepted file (headerOf file) (accepted-file file r a) in omega (arith, f .long, f .fits)
 
+-- Whatever calls but another load came since.
+pub one-file-held : (r r′ : Runner) (file : List ℕ) (past past′ : List Call)
+    → Accepted (load file) r
+    → Accepted (load file) r′
+    → NoneSince file past r
+    → NoneSince file past′ r′
+    → HoldOneChart (since file past r) (since file past′ r′)
+one-file-held r r′ file past past′ a a′ n n′ buffer room =
+    let long : length file ≤ length buffer = omega (arith, file-fits file r a) in
+    loaded-is-written r file buffer past a n long ∙ sym (loaded-is-written r′ file buffer past′ a′ n′ long)
+
 pub one-file : OneFile
 unfolding effective
 one-file r r′ file past past′ g g′ a a′ n n′ inputs inputs′ allowed alike b b′ cs =
-    noninterference _ _ (reached-final past (then g (load file))) (reached-final past′ (then g′ (load file)))
-    (λ buffer room.
-    let long : length file ≤ length buffer = omega (arith, file-fits file r a) in
-    loaded-is-written r file buffer past a n long ∙ sym (loaded-is-written r′ file buffer past′ a′ n′ long))
-    inputs inputs′ allowed 0 4096 alike refl b b′ cs
+    noninterference _ _ inputs inputs′ allowed 0 4096
+    (record {
+      made = reached-final past (then g (load file));
+      made′ = reached-final past′ (then g′ (load file));
+      one-chart = one-file-held r r′ file past past′ a a′ n n′;
+      limits = refl;
+      accepted = b;
+      accepted′ = b′;
+    })
+    alike cs

@@ -46,12 +46,12 @@ start-low r inputs inputs′ allowed l few e e′ f =
     })
 
 pub noninterference : Noninterference
-noninterference r r′ g g′ s inputs inputs′ allowed limit limit′ f el a a′ cs =
-    let p = begin-permits 1 inputs allowed limit r a in
-    let p′ = begin-permits 1 inputs′ allowed limit′ r′ a′ in
-    let c = one-chart r r′ g g′ (p .held) (p′ .held) s in
+noninterference r r′ inputs inputs′ allowed limit limit′ b f cs =
+    let p = begin-permits 1 inputs allowed limit r (b .accepted) in
+    let p′ = begin-permits 1 inputs′ allowed limit′ r′ (b .accepted′) in
+    let c = one-chart r r′ (b .made) (b .made′) (p .held) (p′ .held) (b .one-chart) in
     let k : r .inputs ≡ r′ .inputs = ap (λ (h : Header). h .inputs) (c .header) in
-    ap (tells cs) (begin-starts 1 inputs allowed limit r a)
+    ap (tells cs) (begin-starts 1 inputs allowed limit r (b .accepted))
     ∙ tells-low cs (start-low r inputs inputs′ allowed (effective limit) (in-range (headerIn r) (p .held) .few) (p .lent) (p′ .lent ∙ sym k) f)
-    ∙ ap (tells cs) (starts-same r r′ 1 inputs′ allowed (effective limit) (effective limit′) c el)
-    ∙ sym (ap (tells cs) (begin-starts 1 inputs′ allowed limit′ r′ a′))
+    ∙ ap (tells cs) (starts-same r r′ 1 inputs′ allowed (effective limit) (effective limit′) c (b .limits))
+    ∙ sym (ap (tells cs) (begin-starts 1 inputs′ allowed limit′ r′ (b .accepted′)))

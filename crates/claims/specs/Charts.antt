@@ -68,13 +68,20 @@ LoadedIsWritten =
     → call (writeBack buffer) (final cs (call (load file) r .next)) .told
     ≡ record { reply = wrote (length file); buffer = file ++ drop (length file) buffer }
 
--- "and loading that file reproduces the chart": what any reachable runner writes back, loaded into any runner that has no run under way. The
+-- "and loading that file reproduces the chart": what any reachable runner writes back, loaded into another where this holds of the two. The
 -- length of the file is the one told.
-abbrev pub WrittenIsLoaded : Type 0
-WrittenIsLoaded =
+abbrev pub WrittenLoadsWhere : (Runner → Runner → Type 0) → Type 0
+WrittenLoadsWhere Holds =
     (r r′ : Runner) (buffer : List ℕ) (bytes : ℕ)
     → Reached r
     → call (writeBack buffer) r .told .reply ≡ wrote bytes
-    → isRunning r′ ≡ false
+    → Holds r r′
     → call (load (take bytes (call (writeBack buffer) r .told .buffer))) r′
     ≡ record { told = record { reply = chart (r .inputs) (r .boxes); buffer = [] }; next = dropped r }
+
+-- Into any runner that has no run under way, and nothing is asked of the one that wrote.
+abbrev pub SecondRests : Runner → Runner → Type 0
+SecondRests r r′ = isRunning r′ ≡ false
+
+abbrev pub WrittenIsLoaded : Type 0
+WrittenIsLoaded = WrittenLoadsWhere SecondRests

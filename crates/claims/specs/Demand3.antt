@@ -8,7 +8,7 @@ use Rattle.begin.specs.Begin.{effective, allows}
 use Rattle.runner.specs.declared.Runner.{Runner}
 use Rattle.runner.specs.State.{valued}
 use Rattle.runner.specs.Calls.{Call, begin, answer, writeBack, ending, Told, call}
-use Rattle.claims.specs.Lists.{Reached, Accepted, tells, final, AllSuch, asked, Ends}
+use Rattle.claims.specs.Lists.{Reached, Accepted, begun, tells, final, AllSuch, asked, Ends}
 
 -- "They hold one chart: write back, with room enough, would give the same file from each." A file has at most 2,560 bytes.
 abbrev pub HoldOneChart : Runner → Runner → Type 0
@@ -21,49 +21,59 @@ HoldOneChart r r′ =
 abbrev pub AllowedAlike : ℕ → List ℕ → List ℕ → Type 0
 AllowedAlike allowed inputs inputs′ = (j : ℕ) → allows allowed j ≡ true → getD inputs j 0 ≡ getD inputs′ j 0
 
--- The first half, the secrecy rule, "a single claim about a whole list of calls, not one for each call". "Take two runners that hold one chart,
--- whatever calls made them, and on each an accepted surveillance begin with the same allowed set, step limit and allowed inputs. For every list
--- of calls .. given alike to both, .. both have by its end told exactly the same". "In both halves limit 0 counts as the number it means."
-abbrev pub Noninterference : Type 0
-Noninterference =
-    (r r′ : Runner)
-    → Reached r
-    → Reached r′
-    → HoldOneChart r r′
-    → (inputs inputs′ : List ℕ) (allowed limit limit′ : ℕ)
+-- The two begins that a half compares: "two runners that hold one chart, whatever calls made them, and on each an accepted .. begin with the same
+-- allowed set". The modes, and what is asked of the two limits, are given.
+pub record Begins (mode mode′ : ℕ) (Limits : ℕ → ℕ → Type 0) (r r′ : Runner) (inputs inputs′ : List ℕ) (allowed limit limit′ : ℕ) : Type 0 where
+  pub made : Reached r
+  pub made′ : Reached r′
+  pub one-chart : HoldOneChart r r′
+  pub limits : Limits limit limit′
+  pub accepted : Accepted (begin mode inputs allowed limit) r
+  pub accepted′ : Accepted (begin mode′ inputs′ allowed limit′) r′
+
+-- "In both halves limit 0 counts as the number it means."
+abbrev pub SameLimit : ℕ → ℕ → Type 0
+SameLimit limit limit′ = effective limit ≡ effective limit′
+
+-- The secrecy rule of begins in a mode: "For every list of calls .. given alike to both, .. both have by its end told exactly the same".
+abbrev pub Secrecy : (mode : ℕ) (Limits : ℕ → ℕ → Type 0) → Type 0
+Secrecy mode Limits =
+    (r r′ : Runner) (inputs inputs′ : List ℕ) (allowed limit limit′ : ℕ)
+    → Begins mode mode Limits r r′ inputs inputs′ allowed limit limit′
     → AllowedAlike allowed inputs inputs′
-    → effective limit ≡ effective limit′
-    → Accepted (begin 1 inputs allowed limit) r
-    → Accepted (begin 1 inputs′ allowed limit′) r′
     → (cs : List Call)
-    → tells cs (call (begin 1 inputs allowed limit) r .next) ≡ tells cs (call (begin 1 inputs′ allowed limit′) r′ .next)
+    → tells cs (begun mode inputs allowed limit r) ≡ tells cs (begun mode inputs′ allowed limit′ r′)
+
+-- The first half, the secrecy rule, "a single claim about a whole list of calls, not one for each call". "Take two runners that hold one chart,
+-- whatever calls made them, and on each an accepted surveillance begin with the same allowed set, step limit and allowed inputs."
+abbrev pub Noninterference : Type 0
+Noninterference = Secrecy 1 SameLimit
 
 -- What an answer tells of a run that ended with a value; no other call replies with an ending.
 abbrev pub tellsValue : ℕ → ℕ → Told
 tellsValue v steps = record { reply = ending (valued v) steps; buffer = [] }
 
--- The second half. "suppose that in some list of advance, answer, write back and refused calls after a high-water begin an answer tells a
--- value. Then after a surveillance begin on that chart with the same inputs, allowed set and limit, every list of such calls whose advances
--- add up to the limit or more ends the run, and after each list that ends it an answer tells that value in that number of steps."
-abbrev pub AnswersAsHighWater : Type 0
-AnswersAsHighWater =
-    (r r′ : Runner)
-    → Reached r
-    → Reached r′
-    → HoldOneChart r r′
-    → (inputs : List ℕ) (allowed limit limit′ : ℕ)
-    → effective limit ≡ effective limit′
-    → Accepted (begin 2 inputs allowed limit) r
-    → Accepted (begin 1 inputs allowed limit′) r′
-    → (cs : List Call)
-    → AllSuch cs (call (begin 2 inputs allowed limit) r .next)
+-- "in some list of advance, answer, write back and refused calls after a .. begin an answer tells a value".
+abbrev pub SomeAnswer : Runner → (v steps : ℕ) → Type 0
+SomeAnswer start v steps = (cs : List Call) × AllSuch cs start × List·Memᴰ (tellsValue v steps) (tells cs start)
+
+-- Surveillance answers wherever a begin in some mode does: "Then after a surveillance begin on that chart with the same inputs, allowed set and
+-- limit, every list of such calls whose advances add up to the limit or more ends the run, and after each list that ends it an answer tells that
+-- value in that number of steps."
+abbrev pub AnswersAs : (mode : ℕ) (Limits : ℕ → ℕ → Type 0) → Type 0
+AnswersAs mode Limits =
+    (r r′ : Runner) (inputs : List ℕ) (allowed limit limit′ : ℕ)
+    → Begins mode 1 Limits r r′ inputs inputs allowed limit limit′
     → (v steps : ℕ)
-    → List·Memᴰ (tellsValue v steps) (tells cs (call (begin 2 inputs allowed limit) r .next))
+    → SomeAnswer (begun mode inputs allowed limit r) v steps
     → (ds : List Call)
-    → AllSuch ds (call (begin 1 inputs allowed limit′) r′ .next)
-    → (effective limit′ ≤ asked ds → Ends ds (call (begin 1 inputs allowed limit′) r′ .next))
-    × (Ends ds (call (begin 1 inputs allowed limit′) r′ .next)
-    → call answer (final ds (call (begin 1 inputs allowed limit′) r′ .next)) .told ≡ tellsValue v steps)
+    → AllSuch ds (begun 1 inputs allowed limit′ r′)
+    → (effective limit′ ≤ asked ds → Ends ds (begun 1 inputs allowed limit′ r′))
+    × (Ends ds (begun 1 inputs allowed limit′ r′) → call answer (final ds (begun 1 inputs allowed limit′ r′)) .told ≡ tellsValue v steps)
+
+-- The second half: "suppose that .. after a high-water begin an answer tells a value".
+abbrev pub AnswersAsHighWater : Type 0
+AnswersAsHighWater = AnswersAs 2 SameLimit
 
 -- Demand 3 whole.
 abbrev pub Demand3 : Type 0

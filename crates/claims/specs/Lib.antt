@@ -5,3 +5,4 @@ pub mod Runs
 pub mod Charts
 pub mod Distinct
 pub mod OneFile
+pub mod Bounds

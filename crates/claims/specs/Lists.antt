@@ -16,6 +16,10 @@ pub data Reached : Runner → Type 0 where
 abbrev pub Accepted : Call → Runner → Type 0
 Accepted c r = check c r ≡ Done
 
+-- The runner that a begin hands back.
+abbrev pub begun : (mode : ℕ) (inputs : List ℕ) (allowed limit : ℕ) → Runner → Runner
+begun mode inputs allowed limit r = call (begin mode inputs allowed limit) r .next
+
 -- What a list of calls tells, call by call, and the runner that it ends in.
 unfoldable pub tells : List Call → Runner → List Told
 tells [] r = []

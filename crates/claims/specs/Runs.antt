@@ -11,7 +11,7 @@ use Rattle.begin.specs.Begin.{effective}
 use Rattle.runner.specs.declared.Runner.{Runner}
 use Rattle.runner.specs.State.{isRunning, isEnded, endingIn, endedWith, dropped}
 use Rattle.runner.specs.Calls.{Call, begin, advance, Reply, done, chart, running, ended, ending, wrote, refused, Told, lent, call}
-use Rattle.claims.specs.Lists.{Reached, Accepted, tells, AllSuch, asked, Ends}
+use Rattle.claims.specs.Lists.{Reached, Accepted, begun, tells, AllSuch, asked, Ends}
 
 -- Demand 1: "A refusal changes neither the runner nor one byte of a lent buffer."
 abbrev pub RefusalChangesNothing : Type 0
@@ -20,13 +20,18 @@ RefusalChangesNothing =
     → call c r .told .reply ≡ refused number detail
     → (call c r .told .buffer ≡ lent c) × (call c r .next ≡ r)
 
--- "Advancing by m and then by p does what advancing by m + p does where the run hasn't ended after m": the runner, and what the second call
--- tells. Of the definition this holds without a bound on m + p.
+-- "Advancing by m and then by p does what advancing by m + p does", of the runner and of what the second call tells, where this holds of the
+-- runner and m.
+abbrev pub AdvancesJoinWhere : (Runner → ℕ → Type 0) → Type 0
+AdvancesJoinWhere Holds = (r : Runner) (m p : ℕ) → Holds r m → call (advance p) (call (advance m) r .next) ≡ call (advance (m + p)) r
+
+-- "where the run hasn't ended after m".
+abbrev pub NotEndedAfter : Runner → ℕ → Type 0
+NotEndedAfter r m = isRunning (call (advance m) r .next) ≡ true
+
+-- Of the definition this holds without a bound on m + p.
 abbrev pub AdvancesJoin : Type 0
-AdvancesJoin =
-    (r : Runner) (m p : ℕ)
-    → isRunning (call (advance m) r .next) ≡ true
-    → call (advance p) (call (advance m) r .next) ≡ call (advance (m + p)) r
+AdvancesJoin = AdvancesJoinWhere NotEndedAfter
 
 -- "No operation stops a run": an assignment of any operation, on any operands, stores and goes on.
 abbrev pub NoOperationStops : Type 0
@@ -39,7 +44,7 @@ abbrev pub AfterBegin : (ℕ → Runner → Type 0) → Type 0
 AfterBegin P =
     (r : Runner) (mode : ℕ) (inputs : List ℕ) (allowed limit : ℕ)
     → Accepted (begin mode inputs allowed limit) r
-    → P (effective limit) (call (begin mode inputs allowed limit) r .next)
+    → P (effective limit) (begun mode inputs allowed limit r)
 
 -- "Each box run counts one, the box that ends the run included": an advance by m from the start that leaves the run under way tells m steps;
 -- one that ends it tells s steps where an advance by s ends it so and one by s - 1 does not.

@@ -1,1 +1,16 @@
-// Claims about the calls of the runner, in specs/ and proofs/; there is no code.
+// Claims about the calls of the runner, in specs/ and proofs/, and one function that holds them.
+ghost use Rattle.claims.specs.Demand3.{Demand3};
+ghost use Rattle.claims.specs.OneFile.{OneFile};
+ghost use Rattle.claims.specs.Runs.{RefusalChangesNothing, AdvancesJoin, NoOperationStops, CountsBoxes, LimitEnds, WithinLimit, Cleared};
+ghost use Rattle.claims.specs.Charts.{HeldObeys, RunsInRange, EndsInRange, LoadedIsWritten, WrittenIsLoaded};
+ghost use Rattle.claims.specs.Distinct.{RepliesDistinct};
+ghost use Rattle.claims.specs.Bounds.{AnswersAtTheLimit, RunsWithinBounds, WrittenIntoExactRoom, HeldWithinBounds, StatesWithinBounds};
+
+// The claims of this crate. A claim counts where a contract holds it: without this function the theorems could be deleted, and nothing would fail.
+pub fn promised() -> bool
+    ensures { λ r. ⌜ Demand3 × OneFile × RefusalChangesNothing × AdvancesJoin × NoOperationStops × CountsBoxes × LimitEnds × WithinLimit × Cleared
+        × HeldObeys × RunsInRange × EndsInRange × LoadedIsWritten × WrittenIsLoaded × RepliesDistinct
+        × AnswersAtTheLimit × RunsWithinBounds × WrittenIntoExactRoom × HeldWithinBounds × StatesWithinBounds ⌝ }
+{
+    true
+}

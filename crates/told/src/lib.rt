@@ -7,7 +7,7 @@ use runner::AnswerTold;
 use runner::LoadTold;
 ghost use mathlib.Core.Path.{_≡_};
 ghost use Rattle.runner.specs.Replies.{loadReply, verdictReply, advanceReply, answerReply, writtenReply};
-ghost use Rattle.told.specs.Told.{numbers, encode};
+ghost use Rattle.told.specs.Told.{numbers, encode, EncodesOnce};
 
 // Kinds: 0 done; 1 chart (inputs, boxes); 2 running, 3 ended, 5 notice, 6 spent (steps); 4 value (value, steps); 7 refused (number, detail);
 // 8 written (length). A value that is not used is 0.
@@ -80,4 +80,11 @@ pub fn of_written(told: Written) -> Told
         Written::Length(length) => make(8, length as u64, 0),
         Written::Refused(refusal) => refused(refusal),
     }
+}
+
+// The claim of this crate. A claim counts where a contract holds it: without this function the theorem could be deleted, and nothing would fail.
+pub fn promised() -> bool
+    ensures { λ r. ⌜ EncodesOnce ⌝ }
+{
+    true
 }

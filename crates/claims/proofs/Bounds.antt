@@ -1,0 +1,63 @@
+-- The claims at their exact bounds, each from the theorem of its claim and nothing else. Assumes nothing.
+use Prim.Native.Nat.{ℕ, _+_}
+use mathlib.Core.Path.{_≡_, refl, ap, sym, _∙_, subst}
+use mathlib.Core.List.{List, [], _∷_, _++_, append-nil}
+use mathlib.Core.Logic.{_≢_}
+use native.Mathlib.Omega.{arith}
+use lib.ListN.{length, drop}
+use lib.Seq.{drop-length}
+use Rattle.chart.proofs.Bounds.{header-bounds, box-bounds}
+use Rattle.runner.specs.Calls.{advance, wrote, Told}
+use Rattle.claims.specs.Lists.{final, amount, asked}
+use Rattle.claims.specs.Bounds.{AnswersAtTheLimit, RunsWithinBounds, WrittenIntoExactRoom, HeldWithinBounds, StatesWithinBounds}
+use Rattle.claims.proofs.Demand3.{demand3}
+use Rattle.claims.proofs.RunLaws.{counts-boxes, limit-ends, within-limit}
+use Rattle.claims.proofs.ChartLaws.{held-obeys, runs-in-range, ends-in-range, loaded-is-written}
+
+pub answers-at-the-limit : AnswersAtTheLimit
+unfolding final amount asked
+answers-at-the-limit r r′ inputs allowed limit limit′ b v steps w =
+    let d = demand3 .1 r r′ inputs allowed limit limit′ b v steps w (advance _ ∷ []) (tt, tt) in
+    d .1 (d .0 (omega arith))
+
+pub runs-within-bounds : RunsWithinBounds
+unfolding amount asked
+runs-within-bounds r mode inputs allowed limit a =
+    record {
+      ends = limit-ends r mode inputs allowed limit a (advance _ ∷ []) (tt, tt) (omega arith);
+      within = λ cs q t m. let w = within-limit r mode inputs allowed limit a cs q t m in omega arith;
+      some = λ m e. let s = counts-boxes r mode inputs allowed limit a m 0 .1 e .0 in omega arith;
+      few = λ m e. let s = counts-boxes r mode inputs allowed limit a m (m + 1) .1 e .1 in omega arith;
+    }
+
+pub written-into-exact-room : WrittenIntoExactRoom
+written-into-exact-room r file buffer cs a n long =
+    let rest : drop (length file) buffer ≡ [] = ap (λ (k : ℕ). drop k buffer) (sym long) ∙ drop-length buffer in
+    loaded-is-written r file buffer cs a n (omega arith)
+    ∙ ap (λ (x : List ℕ). record { reply = wrote (length file); buffer = file ++ x }) rest
+    ∙ ap (λ (x : List ℕ). record { reply = wrote (length file); buffer = x }) (append-nil file)
+
+pub held-within-bounds : HeldWithinBounds
+held-within-bounds r g h =
+    let o = held-obeys r g h in
+    record {
+      header = header-bounds (o .header);
+      formed = λ p l. o .formed p (omega arith);
+      ranged = λ p l. box-bounds (o .ranged p (omega arith));
+      zero = o .zero (r .boxes) (omega arith);
+    }
+
+pub states-within-bounds : StatesWithinBounds
+states-within-bounds = (
+  (λ r g e.
+      let u = runs-in-range r g e in
+      record {
+        at = omega arith;
+        mode = omega arith;
+        below = omega arith;
+        limit = omega arith;
+        classes = λ v. let c = u .classes v in omega arith;
+        counter = omega arith;
+      }),
+  (λ r g e. let s = ends-in-range r g e in omega arith),
+)

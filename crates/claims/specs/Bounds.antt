@@ -1,0 +1,63 @@
+-- The claims at their exact bounds. Each follows from the theorem of its claim alone, so a claim whose bound is moved by one would be noticed here.
+use Prim.Native.Nat.{ℕ, _+_}
+use mathlib.Core.Path.{_≡_}
+use mathlib.Core.List.{List, [], _∷_, List·Memᴰ}
+use mathlib.Core.Logic.{_≢_}
+use mathlib.Core.Bool.{true}
+use lib.ListN.{length, getD}
+use Rattle.chart.specs.Bounds.{ChartBounds}
+use Rattle.begin.specs.Begin.{effective}
+use Rattle.runner.specs.declared.Runner.{Runner}
+use Rattle.runner.specs.State.{headerIn, isHeld, isRunning, isEnded}
+use Rattle.runner.specs.Calls.{Call, load, advance, answer, writeBack, ended, wrote, Told, call}
+use Rattle.claims.specs.Lists.{Reached, Accepted, begun, tells, final, AllSuch, Ends}
+use Rattle.claims.specs.Demand3.{Begins, SameLimit, tellsValue, SomeAnswer}
+use Rattle.claims.specs.Runs.{AfterBegin, stepsTold}
+use Rattle.claims.specs.Charts.{NoLoads}
+
+-- Demand 3's second half: after one advance by exactly the limit an answer tells the value that high-water told.
+abbrev pub AnswersAtTheLimit : Type 0
+AnswersAtTheLimit =
+    (r r′ : Runner) (inputs : List ℕ) (allowed limit limit′ : ℕ)
+    → Begins 2 1 SameLimit r r′ inputs inputs allowed limit limit′
+    → (v steps : ℕ)
+    → SomeAnswer (begun 2 inputs allowed limit r) v steps
+    → call answer (call (advance (effective limit′)) (begun 1 inputs allowed limit′ r′) .next) .told ≡ tellsValue v steps
+
+-- A run from its start: one advance by exactly the limit ends it; no call tells one step more than the limit; and an advance by m never tells an
+-- end in no steps, or in m + 1.
+pub record RunBounds (limit : ℕ) (start : Runner) : Type 0 where
+  pub ends : Ends (advance limit ∷ []) start
+  pub within : (cs : List Call) → AllSuch cs start → (t : Told) → List·Memᴰ t (tells cs start) → stepsTold (t .reply) ≢ limit + 1
+  pub some : (m : ℕ) → call (advance m) start .told .reply ≢ ended 0
+  pub few : (m : ℕ) → call (advance m) start .told .reply ≢ ended (m + 1)
+
+abbrev pub RunsWithinBounds : Type 0
+RunsWithinBounds = AfterBegin RunBounds
+
+-- A buffer exactly as long as the file is enough to write it back, and is then the file.
+abbrev pub WrittenIntoExactRoom : Type 0
+WrittenIntoExactRoom =
+    (r : Runner) (file buffer : List ℕ) (cs : List Call)
+    → Accepted (load file) r
+    → NoLoads cs (call (load file) r .next)
+    → length buffer ≡ length file
+    → call (writeBack buffer) (final cs (call (load file) r .next)) .told ≡ record { reply = wrote (length file); buffer = file }
+
+-- The chart that a reachable runner holds.
+abbrev pub HeldWithinBounds : Type 0
+HeldWithinBounds = (r : Runner) → Reached r → isHeld r ≡ true → ChartBounds (headerIn r) (r .table)
+
+-- A run under way: none of its numbers is the first one out of range.
+pub record UnderWayBounds (r : Runner) : Type 0 where
+  pub at : r .at ≢ r .boxes
+  pub mode : r .mode ≢ 3
+  pub below : r .steps ≢ r .limit
+  pub limit : r .limit ≢ 65536
+  pub classes : (v : ℕ) → getD (r .marks) v 0 ≢ 2
+  pub counter : r .counter ≢ 2
+
+-- And no state is past the three endings.
+abbrev pub StatesWithinBounds : Type 0
+StatesWithinBounds =
+    ((r : Runner) → Reached r → isRunning r ≡ true → UnderWayBounds r) × ((r : Runner) → Reached r → isEnded r ≡ true → r .state ≢ 5)

@@ -1,0 +1,86 @@
+-- Each refutation is a run of a chart: what the claim would say of it is that two replies are the same, and they compute to different ones.
+-- Assumes nothing.
+use Prim.Native.Nat.{ℕ}
+use mathlib.Core.Path.{_≡_, refl, ap}
+use mathlib.Core.List.{List, [], _∷_, _++_}
+use native.Mathlib.Omega.{arith}
+use lib.ListN.{replicate}
+use Rattle.runner.specs.declared.Runner.{Runner}
+use Rattle.runner.specs.State.{valued, notice, spent, newRunner}
+use Rattle.runner.specs.Calls.{load, begin, advance, chart, running, ended, ending, refused, Reply, Told, Outcome}
+use Rattle.claims.specs.Lists.{fresh, then, begun}
+use Rattle.claims.proofs.Branches.{clash}
+use Rattle.claims.proofs.Carried.{not-done}
+use Rattle.examples.specs.Charts.{block, front, halt, chartB, chartC, chartD, chartE}
+use Rattle.examples.specs.Refuted.{HighWaterIsNotSecret, AnotherLimitIsTold, BareAnswersMore, SmallerLimitAnswersLess}
+use Rattle.examples.specs.Refuted.{AdvancesPartAtTheEnd, NoLoadDuringARun, AnotherLoadIsTold}
+use Rattle.examples.specs.Witnesses.{newly}
+use Rattle.examples.proofs.Open.{runs-open}
+use Rattle.examples.proofs.Witnesses.{on-one-file, first-withheld, answered}
+
+-- The first reply of a list.
+first : List Told → Reply
+first [] = refused 0 0
+first (t ∷ ts) = t .reply
+
+pub high-water-is-not-secret : HighWaterIsNotSecret
+unfolding runs-open first
+high-water-is-not-secret claim =
+    let begins = on-one-file chartB [] [] refl tt tt refl refl refl in
+    let e : ended 3 ≡ ended 4 = ap first (claim _ _ (0 ∷ []) (4 ∷ []) 0 0 0 begins (first-withheld 0 refl 0 4 []) (advance 4096 ∷ [])) in
+    let z : _≡_ {A = ℕ} 3 4 = cc in
+    omega arith
+
+pub another-limit-is-told : AnotherLimitIsTold
+unfolding runs-open first
+another-limit-is-told claim =
+    let begins = on-one-file chartC [] [] refl tt tt refl refl refl in
+    let e : ended 1 ≡ running 1 = ap first (claim _ _ [] [] 0 1 2 begins (λ j e. refl) (advance 1 ∷ [])) in
+    clash cc
+
+pub bare-answers-more : BareAnswersMore
+unfolding runs-open
+bare-answers-more claim =
+    let begins = on-one-file chartD [] [] refl tt tt refl refl refl in
+    let both = claim _ _ (7 ∷ []) 0 0 0 begins 0 2 (answered _ 0 2 refl) (advance 2 ∷ []) (tt, tt) in
+    let e : ending notice 2 ≡ ending (valued 0) 2 = ap (λ (t : Told). t .reply) (both .1 refl) in
+    clash cc
+
+pub smaller-limit-answers-less : SmallerLimitAnswersLess
+unfolding runs-open
+smaller-limit-answers-less claim =
+    let begins = on-one-file chartE [] [] refl tt tt refl refl refl in
+    let both = claim _ _ (7 ∷ []) 0 2 1 begins 5 2 (answered _ 5 2 refl) (advance 1 ∷ []) (tt, tt) in
+    let e : ending spent 1 ≡ ending (valued 5) 2 = ap (λ (t : Told). t .reply) (both .1 refl) in
+    clash cc
+
+-- Chart C with limit 1, under way.
+underway : Runner
+underway = begun 0 [] 0 1 (newly chartC)
+
+pub advances-part-at-the-end : AdvancesPartAtTheEnd
+unfolding runs-open underway
+advances-part-at-the-end claim =
+    let e : refused 23 0 ≡ ended 1 = ap (λ (o : Outcome). o .told .reply) (claim underway 1 1 refl) in
+    clash cc
+
+pub no-load-during-a-run : NoLoadDuringARun
+unfolding runs-open underway
+no-load-during-a-run claim =
+    let outcome = claim (newly chartC) underway (replicate 1024 0) 1024 (then fresh (load chartC)) refl refl in
+    let e : refused 22 0 ≡ chart 0 1 = ap (λ (o : Outcome). o .told .reply) outcome in
+    clash cc
+
+-- A chart of one box, a halt.
+halting : List ℕ
+halting = block (front 0 1 0) 51 3 ++ block halt 3 0
+
+-- Chart C is loaded over chart E. Before it, a begin with one input is accepted and so a load refused; after it, the begin is refused and the load
+-- of the chart that halts is not.
+pub another-load-is-told : AnotherLoadIsTold
+unfolding runs-open first halting
+another-load-is-told claim =
+    let past = begin 1 (7 ∷ []) 0 0 ∷ load halting ∷ [] in
+    let begins = claim newRunner (newly chartE) chartC [] past fresh (then fresh (load chartE)) refl refl tt (tt, (not-done, tt)) in
+    let e : running 1 ≡ ended 1 = ap first (begins [] [] 0 (λ j e. refl) refl refl (advance 1 ∷ [])) in
+    clash cc

@@ -1,0 +1,60 @@
+-- The instances of demand 3: both runners have loaded one file, so they hold one chart; the rest is computation. Assumes nothing.
+use Prim.Native.Nat.{ℕ, zero, suc}
+use mathlib.Core.Path.{_≡_, refl, sym, _∙_}
+use mathlib.Core.List.{List, [], _∷_, List·Memᴰ·head, List·Memᴰ·tail}
+use mathlib.Core.Bool.{false, false≢true}
+use Rattle.begin.specs.Begin.{allows}
+use Rattle.runner.specs.declared.Runner.{Runner}
+use Rattle.runner.specs.State.{newRunner}
+use Rattle.runner.specs.Calls.{Call, load, begin, advance, answer, call}
+use Rattle.claims.specs.Lists.{fresh, then, Accepted, tells}
+use Rattle.claims.specs.Demand3.{AllowedAlike, Begins, tellsValue, SomeAnswer}
+use Rattle.claims.specs.OneFile.{since, NoneSince}
+use Rattle.claims.proofs.Carried.{not-done}
+use Rattle.claims.proofs.OneFile.{reached-final, one-file-held}
+use Rattle.examples.specs.Charts.{chartA, chartE}
+use Rattle.examples.specs.Witnesses.{runBare, SecrecyIsMet, AnsweringIsMet}
+use Rattle.examples.proofs.Open.{runs-open}
+
+-- Two begins on runners that have loaded one file.
+pub on-one-file : (file : List ℕ) (past past′ : List Call) {mode mode′ : ℕ} {Limits : ℕ → ℕ → Type 0} {inputs inputs′ : List ℕ} {allowed limit limit′ : ℕ}
+    → Accepted (load file) newRunner
+    → NoneSince file past newRunner
+    → NoneSince file past′ newRunner
+    → Limits limit limit′
+    → Accepted (begin mode inputs allowed limit) (since file past newRunner)
+    → Accepted (begin mode′ inputs′ allowed limit′) (since file past′ newRunner)
+    → Begins mode mode′ Limits (since file past newRunner) (since file past′ newRunner) inputs inputs′ allowed limit limit′
+on-one-file file past past′ loads n n′ l a a′ =
+    record {
+      made = reached-final past (then fresh (load file));
+      made′ = reached-final past′ (then fresh (load file));
+      one-chart = one-file-held newRunner newRunner file past past′ loads loads n n′;
+      limits = l;
+      accepted = a;
+      accepted′ = a′;
+    }
+
+-- Nothing is asked of a first input that is withheld.
+pub first-withheld : (allowed : ℕ) → allows allowed 0 ≡ false → (a b : ℕ) (rest : List ℕ) → AllowedAlike allowed (a ∷ rest) (b ∷ rest)
+first-withheld allowed w a b rest zero e = absurd (false≢true (sym w ∙ e))
+first-withheld allowed w a b rest (suc j) e = refl
+
+-- An answer after an advance by 2 that tells a value.
+pub answered : (start : Runner) (v steps : ℕ) → tellsValue v steps ≡ call answer (call (advance 2) start .next) .told → SomeAnswer start v steps
+unfolding tells
+answered start v steps e = (advance 2 ∷ answer ∷ [], (tt, (tt, tt)), List·Memᴰ·tail (List·Memᴰ·head e))
+
+pub secrecy-is-met : SecrecyIsMet
+unfolding runs-open
+secrecy-is-met =
+    (on-one-file chartA [] (runBare (1 ∷ 2 ∷ [])) refl tt (tt, (tt, tt)) refl refl refl, first-withheld 2 refl 7 8 (9 ∷ []), refl)
+
+pub answering-is-met : AnsweringIsMet
+unfolding runs-open
+answering-is-met = (
+  on-one-file chartE [] (runBare (3 ∷ [])) refl tt (tt, (tt, tt)) refl refl refl,
+  answered _ 5 2 refl,
+  (tt, (not-done, (not-done, (tt, (tt, (tt, (not-done, (tt, tt)))))))),
+  refl,
+)

@@ -1,0 +1,10 @@
+-- `promised` holds the claims of this crate: each by its theorem.
+use Rattle.told.proofs.Numbers.{encodes-once}
+use Rattle.told.proofs.promised.Statement.{statement}
+use Rattle.told.proofs.promised.Tie as tie
+
+returns : tie.Need-returns
+returns c = encodes-once
+
+pub promised-spec : {M : Type 1} → statement M
+promised-spec = tie.close (tie.spec returns)
