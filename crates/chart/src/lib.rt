@@ -151,5 +151,4 @@ pub fn show_box(file: &[u8], number: u32) -> &[u8]
 pub fn promised()
     ensures { λ _. ⌜ TellsLength × ReproducesFile × ReproducesChart × ObeysRules × ShowsTheBox × StaysInRange
         × ExactRoom × LastBoxShown × LoadsWithinBounds ⌝ }
-{
-}
+{}

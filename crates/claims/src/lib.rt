@@ -11,5 +11,4 @@ pub fn promised()
     ensures { λ _. ⌜ Demand3 × OneFile × RefusalChangesNothing × AdvancesJoin × NoOperationStops × CountsBoxes × LimitEnds × WithinLimit × Cleared
         × HeldObeys × RunsInRange × EndsInRange × LoadedIsWritten × WrittenIsLoaded × RepliesDistinct
         × AnswersAtTheLimit × RunsWithinBounds × WrittenIntoExactRoom × HeldWithinBounds × StatesWithinBounds ⌝ }
-{
-}
+{}

@@ -11,5 +11,4 @@ pub fn promised()
         × HighWaterIsNotSecret × AnotherLimitIsTold × BareAnswersMore × SmallerLimitAnswersLess
         × AdvancesPartAtTheEnd × NoLoadDuringARun × AnotherLoadIsTold
         × SecrecyIsMet × AnsweringIsMet ⌝ }
-{
-}
+{}

@@ -96,5 +96,4 @@ pub fn respond(runner: Runner, number: u64, text: &[u8], out: &mut [u8]) -> usiz
 // The claims of lines, which this contract holds.
 pub fn promised()
     ensures { λ _. ⌜ LinesEnd × LinesApart ⌝ }
-{
-}
+{}

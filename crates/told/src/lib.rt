@@ -85,5 +85,4 @@ pub fn of_written(told: Written) -> Told
 // The claim of this crate. A claim counts where a contract holds it: without this function the theorem could be deleted, and nothing would fail.
 pub fn promised()
     ensures { λ _. ⌜ EncodesOnce ⌝ }
-{
-}
+{}

@@ -278,15 +278,15 @@ module _ (buffer₀ : List ℕ) (at last : ℕ) where
         let long : length first ≡ count = front-long (omega arith) in
         let b : ℕ = getD buffer from 0 in
         let old : b ≡ getD (drop at buffer₀) count 0 =
-              let far : from ≡ length first + at = omega arith in
-              ap (λ (x : List ℕ). getD x from 0) (h .moved)
-              ∙ ap (λ (n : ℕ). getD (first ++ drop count buffer₀) n 0) far
-              ∙ getD-append-add first (drop count buffer₀) at 0
-              ∙ getD-drop count buffer₀ at 0
-              ∙ ap (λ (n : ℕ). getD buffer₀ n 0) (omega arith)
-              ∙ sym (getD-drop at buffer₀ count 0) in
+        let far : from ≡ length first + at = omega arith in
+        ap (λ (x : List ℕ). getD x from 0) (h .moved)
+        ∙ ap (λ (n : ℕ). getD (first ++ drop count buffer₀) n 0) far
+        ∙ getD-append-add first (drop count buffer₀) at 0
+        ∙ getD-drop count buffer₀ at 0
+        ∙ ap (λ (n : ℕ). getD buffer₀ n 0) (omega arith)
+        ∙ sym (getD-drop at buffer₀ count 0) in
         let more : first ++ (b ∷ []) ≡ take (count + 1) (drop at buffer₀) =
-              ap (λ (x : ℕ). first ++ (x ∷ [])) old ∙ sym (take-suc (drop at buffer₀) count 0 (omega arith)) ∙ ap (λ (n : ℕ). take n (drop at buffer₀)) (sym (add-one count)) in
+        ap (λ (x : ℕ). first ++ (x ∷ [])) old ∙ sym (take-suc (drop at buffer₀) count 0 (omega arith)) ∙ ap (λ (n : ℕ). take n (drop at buffer₀)) (sym (add-one count)) in
         let stored = end-front first buffer₀ buffer b count (h .moved ∙ ap (λ (n : ℕ). first ++ drop n buffer₀) (sym long)) (sym long) (omega arith) in
         record {
           place = omega arith;

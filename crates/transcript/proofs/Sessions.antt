@@ -122,15 +122,14 @@ module _ (file : List ℕ) where
 
     holds-read : (i : Input) (pieces : List (List ℕ)) (s : State) (sofar piece : List ℕ) → s .over ≡ false → p r room s .taken ≡ 0 → Holds pieces i s sofar
         → Holds (pieces ++ (piece ∷ [])) i (record { count = s .count; bytes = kept (s .bytes) ++ piece; over = false }) sofar
-    holds-read going pieces s sofar piece o z h =
-        (
-          refl,
-          λ e more f.
-              ap (λ (x : List ℕ). greeting file ++ counted r 0 (linesIn e (x ++ more))) (flatten-one pieces piece)
-              ∙ ap (λ (x : List ℕ). greeting file ++ counted r 0 (linesIn e x)) (append-assoc (flatten pieces) piece more)
-              ∙ stands-kept pieces s sofar o z (h .1) e (piece ++ more)
-              ∙ ap (λ (x : List ℕ). sofar ++ counted r (s .count) (linesIn e x)) (sym (append-assoc (kept (s .bytes)) piece more)),
-        )
+    holds-read going pieces s sofar piece o z h = (
+      refl,
+      λ e more f.
+          ap (λ (x : List ℕ). greeting file ++ counted r 0 (linesIn e (x ++ more))) (flatten-one pieces piece)
+          ∙ ap (λ (x : List ℕ). greeting file ++ counted r 0 (linesIn e x)) (append-assoc (flatten pieces) piece more)
+          ∙ stands-kept pieces s sofar o z (h .1) e (piece ++ more)
+          ∙ ap (λ (x : List ℕ). sofar ++ counted r (s .count) (linesIn e x)) (sym (append-assoc (kept (s .bytes)) piece more)),
+    )
     holds-read ended pieces s sofar piece o z h = absurd (false≢true (sym o ∙ h .0))
     holds-read broken pieces s sofar piece o z h = absurd (false≢true (sym o ∙ h .over))
 
@@ -198,8 +197,7 @@ pub writes-transcript : WritesTranscript
 unfolding counted
 writes-transcript file room pieces s sofar c l f q =
     let r = holder file in
-    let w = stopped r room s q in
-    (
+    let w = stopped r room s q in (
       λ d.
           let h = holds file room l d in
           let none : linesOf (s .bytes) ≡ [] = ap (λ (x : Bool). linesIn x (s .bytes)) (sym (w .1)) ∙ idle r room s l (w .0) in

@@ -145,8 +145,7 @@ module _ (r : Runner) (b out₀ out : List ℕ) (s : Session) (end at : ℕ) (e 
         = sym (drop-drop (f .taken) at (take end b))
         ∙ ap (drop (f .taken)) (at-hand b s end at e a)
         ∙ ap (λ (n : ℕ). drop n hand) taken-is
-        ∙ drop-min (p .taken) hand in
-        (
+        ∙ drop-min (p .taken) hand in (
           rw (lt-ltb 0 (p .taken) some, front-is, rest, ap (λ (x : Fed). x .count) told) refl,
           (
             omega arith,
@@ -178,8 +177,7 @@ module _ (r : Runner) (b out₀ out : List ℕ) (s : Session) (end at : ℕ) (e 
     turn-reads z o b′ n k =
         let none : p .taken ≡ 0 = nothing z in
         let moved : take n b′ ≡ kept hand
-        = ap (take n) (k .1) ∙ take-at (kept (drop at (take end b))) (drop n b) n (sym (k .0)) ∙ ap kept (at-hand b s end at e a) in
-        (
+        = ap (take n) (k .1) ∙ take-at (kept (drop at (take end b))) (drop n b) n (sym (k .0)) ∙ ap kept (at-hand b s end at e a) in (
           rw (le-ltb 0 (p .taken) (omega arith), o, moved) refl,
           (omega (arith, k .0, ap length (k .1), length-append (kept (drop at (take end b))) (drop n b)), (omega arith, refl)),
         )

@@ -180,5 +180,4 @@ pub fn received(session: Session, got: isize, buffer: &[u8]) -> Session
 // The claims of the run program, which this contract holds.
 pub fn promised()
     ensures { λ _. ⌜ WritesTranscript × AnswersFirst × BeginsTranscript × WritesEnd × FirstBytes ⌝ }
-{
-}
+{}

@@ -6,11 +6,6 @@ use lib.Seq.{length-take-le}
 use borrow.Author.Needs.{needs}
 use Rattle.serve.proofs.read_file.Statement.{statement}
 use Rattle.serve.proofs.read_file.Tie as tie
-use Rattle.serve.proofs.read_file.Reads as reads
-use Rattle.serve.proofs.read_file.Lts as lts
-use Rattle.io.proofs.count.Reads as count-reads
-use Rattle.libc.proofs.read.Reads as read-reads
-use Rattle.os.proofs.fail.Reads as fail-reads
 
 abbrev Inv-loop : tie.InvT-loop
 Inv-loop fd buf₀ size₀ t6 buf size = (size ≤ length buf) × (length buf ≡ length buf₀)

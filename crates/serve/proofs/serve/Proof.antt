@@ -4,11 +4,6 @@ use lib.ListN.{length}
 use borrow.Author.Needs.{needs}
 use Rattle.serve.proofs.serve.Statement.{statement}
 use Rattle.serve.proofs.serve.Tie as tie
-use Rattle.serve.proofs.serve.Reads as reads
-use Rattle.serve.proofs.serve.Lts as lts
-use Rattle.serve.proofs.read.Reads as read-reads
-use Rattle.serve.proofs.write.Reads as write-reads
-use Rattle.transcript.proofs.turn.Reads as turn-reads
 
 abbrev Inv-loop : tie.InvT-loop
 Inv-loop runner buffer₀ out₀ session₀ turns₀ buffer out session turns = (length buffer ≡ length buffer₀) × (length out ≡ length out₀)

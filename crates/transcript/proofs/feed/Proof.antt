@@ -12,12 +12,6 @@ use borrow.Author.Needs.{needs}
 use Rattle.transcript.proofs.Buffers.{all, Feeds, starts, ends, ends-all, ends-room, ends-open, turn-done, last-open}
 use Rattle.transcript.proofs.feed.Statement.{statement}
 use Rattle.transcript.proofs.feed.Tie as tie
-use Rattle.transcript.proofs.feed.Reads as reads
-use Rattle.transcript.proofs.feed.Lts as lts
-use Rattle.bytes.proofs.scan.find.Reads as find-reads
-use Rattle.reply.proofs.respond.Reads as respond-reads
-use Rattle.std.proofs.num.wrapping_add_u64.Reads as wrapping-add-u64-reads
-use Rattle.transcript.proofs.lesser.Reads as lesser-reads
 
 abbrev Inv-loop : tie.InvT-loop
 Inv-loop runner lines over input out₀ count₀ at₀ size₀ out count at size = Feeds runner lines over input out₀ out count at size

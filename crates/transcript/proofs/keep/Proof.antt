@@ -8,9 +8,6 @@ use borrow.Author.Needs.{needs}
 use Rattle.transcript.proofs.Buffers.{Keeps, keeps-none, keeps-more, kept-all}
 use Rattle.transcript.proofs.keep.Statement.{statement}
 use Rattle.transcript.proofs.keep.Tie as tie
-use Rattle.transcript.proofs.keep.Reads as reads
-use Rattle.transcript.proofs.keep.Lts as lts
-use Rattle.transcript.proofs.lesser.Reads as lesser-reads
 
 abbrev Inv-loop : tie.InvT-loop
 Inv-loop at end buffer₀ last count₀ from₀ buffer count from = (last ≤ length buffer₀) × Keeps buffer₀ at last buffer count from

@@ -12,10 +12,6 @@ use Rattle.transcript.proofs.States.{read-failed, read-none, read-some}
 use borrow.Author.Needs.{needs}
 use Rattle.transcript.proofs.received.Statement.{statement}
 use Rattle.transcript.proofs.received.Tie as tie
-use Rattle.transcript.proofs.received.Reads as reads
-use Rattle.transcript.proofs.received.Lts as lts
-use Rattle.io.proofs.count.Reads as count-reads
-use Rattle.transcript.proofs.lesser.Reads as lesser-reads
 
 lesser-requires : tie.Need-lesser-requires
 lesser-requires c κs = search needs

@@ -6,11 +6,6 @@ use Rattle.transcript.proofs.States.{fits, turn-writes, turn-stops, tur
 use borrow.Author.Needs.{needs}
 use Rattle.transcript.proofs.turn.Statement.{statement}
 use Rattle.transcript.proofs.turn.Tie as tie
-use Rattle.transcript.proofs.turn.Reads as reads
-use Rattle.transcript.proofs.turn.Lts as lts
-use Rattle.transcript.proofs.feed.Reads as feed-reads
-use Rattle.transcript.proofs.keep.Reads as keep-reads
-use Rattle.transcript.proofs.lesser.Reads as lesser-reads
 
 lesser-requires : tie.Need-lesser-requires
 lesser-requires c κs = search needs
