@@ -68,8 +68,8 @@ LoadedIsWritten =
     → call (writeBack buffer) (final cs (call (load file) r .next)) .told
     ≡ record { reply = wrote (length file); buffer = file ++ drop (length file) buffer }
 
--- "and loading that file reproduces the chart": what any reachable runner writes back, loaded into another where this holds of the two. The
--- length of the file is the one told.
+-- "and loading that file reproduces the chart": what any reachable runner writes back, loaded into any other with which it meets a condition.
+-- The length of the file is the one told.
 abbrev pub WrittenLoadsWhere : (Runner → Runner → Type 0) → Type 0
 WrittenLoadsWhere Holds =
     (r r′ : Runner) (buffer : List ℕ) (bytes : ℕ)
@@ -79,7 +79,7 @@ WrittenLoadsWhere Holds =
     → call (load (take bytes (call (writeBack buffer) r .told .buffer))) r′
     ≡ record { told = record { reply = chart (r .inputs) (r .boxes); buffer = [] }; next = dropped r }
 
--- Into any runner that has no run under way, and nothing is asked of the one that wrote.
+-- The one that loads has no run under way, and nothing is asked of the one that wrote.
 abbrev pub SecondRests : Runner → Runner → Type 0
 SecondRests r r′ = isRunning r′ ≡ false
 

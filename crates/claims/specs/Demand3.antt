@@ -22,7 +22,7 @@ abbrev pub AllowedAlike : ℕ → List ℕ → List ℕ → Type 0
 AllowedAlike allowed inputs inputs′ = (j : ℕ) → allows allowed j ≡ true → getD inputs j 0 ≡ getD inputs′ j 0
 
 -- The two begins that a half compares: "two runners that hold one chart, whatever calls made them, and on each an accepted .. begin with the same
--- allowed set". The modes, and what is asked of the two limits, are given.
+-- allowed set", in these modes and with limits that are related so.
 pub record Begins (mode mode′ : ℕ) (Limits : ℕ → ℕ → Type 0) (r r′ : Runner) (inputs inputs′ : List ℕ) (allowed limit limit′ : ℕ) : Type 0 where
   pub made : Reached r
   pub made′ : Reached r′
@@ -35,7 +35,7 @@ pub record Begins (mode mode′ : ℕ) (Limits : ℕ → ℕ → Type 0) (r r′
 abbrev pub SameLimit : ℕ → ℕ → Type 0
 SameLimit limit limit′ = effective limit ≡ effective limit′
 
--- The secrecy rule of begins in a mode: "For every list of calls .. given alike to both, .. both have by its end told exactly the same".
+-- The secrecy rule for begins in one mode with limits that are related so: "For every list of calls .. given alike to both, .. both have by its end told exactly the same".
 abbrev pub Secrecy : (mode : ℕ) (Limits : ℕ → ℕ → Type 0) → Type 0
 Secrecy mode Limits =
     (r r′ : Runner) (inputs inputs′ : List ℕ) (allowed limit limit′ : ℕ)
@@ -57,7 +57,7 @@ tellsValue v steps = record { reply = ending (valued v) steps; buffer = [] }
 abbrev pub SomeAnswer : Runner → (v steps : ℕ) → Type 0
 SomeAnswer start v steps = (cs : List Call) × AllSuch cs start × List·Memᴰ (tellsValue v steps) (tells cs start)
 
--- Surveillance answers wherever a begin in some mode does: "Then after a surveillance begin on that chart with the same inputs, allowed set and
+-- Surveillance answers wherever a run in a mode does, with limits that are related so: "Then after a surveillance begin on that chart with the same inputs, allowed set and
 -- limit, every list of such calls whose advances add up to the limit or more ends the run, and after each list that ends it an answer tells that
 -- value in that number of steps."
 abbrev pub AnswersAs : (mode : ℕ) (Limits : ℕ → ℕ → Type 0) → Type 0

@@ -1,4 +1,5 @@
--- What is claimed of the six calls: lists of calls, demand 3, the laws of a run, of refusals and of held charts, that the replies are distinct, and demand 3 of one file.
+-- What is claimed of the six calls: lists of calls, demand 3, the laws of a run, of refusals and of held charts, that the replies are
+-- distinct, demand 3 of one file, and the claims at their exact bounds.
 pub mod Lists
 pub mod Demand3
 pub mod Runs

@@ -12,8 +12,8 @@ use Rattle.claims.specs.Demand3.{AllowedAlike}
 abbrev pub since : List ℕ → List Call → Runner → Runner
 since file past r = final past (call (load file) r .next)
 
--- "Take two runners that hold one chart, whatever calls made them": both have loaded one file, and nothing is asked of what came before it, and
--- this of the calls since. One is begun with limit 0 and the other with the 4,096 that it means, and withheld inputs differ.
+-- "Take two runners that hold one chart, whatever calls made them": both have loaded one file, nothing is asked of what came before it, and of the
+-- calls since a condition. One is begun with limit 0 and the other with the 4,096 that it means, and withheld inputs differ.
 abbrev pub OneFileWhere : (List ℕ → List Call → Runner → Type 0) → Type 0
 OneFileWhere Holds =
     (r r′ : Runner) (file : List ℕ) (past past′ : List Call)
@@ -30,7 +30,7 @@ OneFileWhere Holds =
     → (cs : List Call)
     → tells cs (begun 1 inputs allowed 0 (since file past r)) ≡ tells cs (begun 1 inputs′ allowed 4096 (since file past′ r′))
 
--- Since the file was loaded, no other load is accepted.
+-- Nothing is asked of the calls since but that no other load is accepted.
 abbrev pub NoneSince : List ℕ → List Call → Runner → Type 0
 NoneSince file past r = NoLoads past (call (load file) r .next)
 

@@ -20,8 +20,8 @@ RefusalChangesNothing =
     → call c r .told .reply ≡ refused number detail
     → (call c r .told .buffer ≡ lent c) × (call c r .next ≡ r)
 
--- "Advancing by m and then by p does what advancing by m + p does", of the runner and of what the second call tells, where this holds of the
--- runner and m.
+-- "Advancing by m and then by p does what advancing by m + p does": the runner, and what the second call tells. Of every runner and m that meet a
+-- condition.
 abbrev pub AdvancesJoinWhere : (Runner → ℕ → Type 0) → Type 0
 AdvancesJoinWhere Holds = (r : Runner) (m p : ℕ) → Holds r m → call (advance p) (call (advance m) r .next) ≡ call (advance (m + p)) r
 

@@ -14,7 +14,7 @@ use Rattle.claims.proofs.Carried.{not-done}
 use Rattle.examples.specs.Charts.{block, front, halt, chartB, chartC, chartD, chartE}
 use Rattle.examples.specs.Refuted.{HighWaterIsNotSecret, AnotherLimitIsTold, BareAnswersMore, SmallerLimitAnswersLess}
 use Rattle.examples.specs.Refuted.{AdvancesPartAtTheEnd, NoLoadDuringARun, AnotherLoadIsTold}
-use Rattle.examples.specs.Witnesses.{newly}
+use Rattle.examples.specs.Witnesses.{justLoaded}
 use Rattle.examples.proofs.Open.{runs-open}
 use Rattle.examples.proofs.Witnesses.{on-one-file, first-withheld, answered}
 
@@ -56,7 +56,7 @@ smaller-limit-answers-less claim =
 
 -- Chart C with limit 1, under way.
 underway : Runner
-underway = begun 0 [] 0 1 (newly chartC)
+underway = begun 0 [] 0 1 (justLoaded chartC)
 
 pub advances-part-at-the-end : AdvancesPartAtTheEnd
 unfolding runs-open underway
@@ -67,7 +67,7 @@ advances-part-at-the-end claim =
 pub no-load-during-a-run : NoLoadDuringARun
 unfolding runs-open underway
 no-load-during-a-run claim =
-    let outcome = claim (newly chartC) underway (replicate 1024 0) 1024 (then fresh (load chartC)) refl refl in
+    let outcome = claim (justLoaded chartC) underway (replicate 1024 0) 1024 (then fresh (load chartC)) refl refl in
     let e : refused 22 0 ≡ chart 0 1 = ap (λ (o : Outcome). o .told .reply) outcome in
     clash cc
 
@@ -81,6 +81,6 @@ pub another-load-is-told : AnotherLoadIsTold
 unfolding runs-open first halting
 another-load-is-told claim =
     let past = begin 1 (7 ∷ []) 0 0 ∷ load halting ∷ [] in
-    let begins = claim newRunner (newly chartE) chartC [] past fresh (then fresh (load chartE)) refl refl tt (tt, (not-done, tt)) in
+    let begins = claim newRunner (justLoaded chartE) chartC [] past fresh (then fresh (load chartE)) refl refl tt (tt, (not-done, tt)) in
     let e : running 1 ≡ ended 1 = ap first (begins [] [] 0 (λ j e. refl) refl refl (advance 1 ∷ [])) in
     clash cc

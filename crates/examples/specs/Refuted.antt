@@ -32,7 +32,7 @@ BareAnswersMore = AnswersAs 0 SameLimit → ⊥
 abbrev pub SmallerLimitAnswersLess : Type 0
 SmallerLimitAnswersLess = AnswersAs 2 OneLess → ⊥
 
--- "23: no run is under way (advance, abandon)": an advance past the end is refused, where the one advance tells the ending.
+-- "23: no run is under way (advance, abandon)": a second advance past the end is refused, where the one advance tells "ended".
 abbrev pub AdvancesPartAtTheEnd : Type 0
 AdvancesPartAtTheEnd = AdvancesJoinWhere (λ r m. isRunning r ≡ true) → ⊥
 

@@ -1,6 +1,6 @@
 -- Instances of demand 3 that meet all that it supposes, and what they are told: what it supposes can be met, and it speaks of something.
-use mathlib.Core.Path.{_≡_}
 use Prim.Native.Nat.{ℕ}
+use mathlib.Core.Path.{_≡_}
 use mathlib.Core.List.{List, [], _∷_, map}
 use Rattle.runner.specs.declared.Runner.{Runner}
 use Rattle.runner.specs.State.{valued, newRunner}
@@ -11,25 +11,25 @@ use Rattle.claims.specs.OneFile.{since}
 use Rattle.examples.specs.Charts.{chartA, chartE}
 
 -- "their pasts may differ": a runner that has only loaded a file, and one that has run it bare since, to the ending.
-abbrev pub newly : List ℕ → Runner
-newly file = since file [] newRunner
+abbrev pub justLoaded : List ℕ → Runner
+justLoaded file = since file [] newRunner
 
 abbrev pub runBare : List ℕ → List Call
 runBare inputs = begin 0 inputs 0 0 ∷ advance 9 ∷ []
 
-abbrev pub used : List ℕ → List ℕ → Runner
-used file inputs = since file (runBare inputs) newRunner
+abbrev pub loadedAndRun : List ℕ → List ℕ → Runner
+loadedAndRun file inputs = since file (runBare inputs) newRunner
 
--- A list of calls replies so, with no buffer lent.
+-- The replies of a list of calls; no byte is lent to be written.
 abbrev pub Replies : List Call → Runner → List Reply → Type 0
 Replies cs r rs = tells cs r ≡ map (λ (x : Reply). record { reply = x; buffer = [] }) rs
 
 -- The first half: chart A with input 0 withheld, 7 on the one side and 8 on the other, and limit 0 beside the 4,096 that it means.
 abbrev pub SecrecyIsMet : Type 0
 SecrecyIsMet =
-    Begins 1 1 SameLimit (newly chartA) (used chartA (1 ∷ 2 ∷ [])) (7 ∷ 9 ∷ []) (8 ∷ 9 ∷ []) 2 0 4096
+    Begins 1 1 SameLimit (justLoaded chartA) (loadedAndRun chartA (1 ∷ 2 ∷ [])) (7 ∷ 9 ∷ []) (8 ∷ 9 ∷ []) 2 0 4096
     × AllowedAlike 2 (7 ∷ 9 ∷ []) (8 ∷ 9 ∷ [])
-    × Replies (advance 4096 ∷ answer ∷ []) (begun 1 (7 ∷ 9 ∷ []) 2 0 (newly chartA)) (ended 3 ∷ ending (valued 9) 3 ∷ [])
+    × Replies (advance 4096 ∷ answer ∷ []) (begun 1 (7 ∷ 9 ∷ []) 2 0 (justLoaded chartA)) (ended 3 ∷ ending (valued 9) 3 ∷ [])
 
 -- The second half: chart E with its input withheld and limit 2. High-water tells value 5 in 2 steps; under surveillance two advances add up to
 -- the limit, in a list of calls of every kind, "advance, answer, write back and refused calls".
@@ -38,8 +38,8 @@ everyKind = advance 1 ∷ load chartA ∷ begin 1 [] 0 0 ∷ writeBack [] ∷ an
 
 abbrev pub AnsweringIsMet : Type 0
 AnsweringIsMet =
-    Begins 2 1 SameLimit (newly chartE) (used chartE (3 ∷ [])) (7 ∷ []) (7 ∷ []) 0 2 2
-    × SomeAnswer (begun 2 (7 ∷ []) 0 2 (newly chartE)) 5 2
-    × AllSuch everyKind (begun 1 (7 ∷ []) 0 2 (used chartE (3 ∷ [])))
-    × Replies everyKind (begun 1 (7 ∷ []) 0 2 (used chartE (3 ∷ [])))
+    Begins 2 1 SameLimit (justLoaded chartE) (loadedAndRun chartE (3 ∷ [])) (7 ∷ []) (7 ∷ []) 0 2 2
+    × SomeAnswer (begun 2 (7 ∷ []) 0 2 (justLoaded chartE)) 5 2
+    × AllSuch everyKind (begun 1 (7 ∷ []) 0 2 (loadedAndRun chartE (3 ∷ [])))
+    × Replies everyKind (begun 1 (7 ∷ []) 0 2 (loadedAndRun chartE (3 ∷ [])))
     (running 1 ∷ refused 22 0 ∷ refused 22 0 ∷ refused 12 0 ∷ refused 24 0 ∷ ended 2 ∷ refused 23 0 ∷ ending (valued 5) 2 ∷ [])
