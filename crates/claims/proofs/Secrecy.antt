@@ -19,16 +19,23 @@ use Rattle.claims.proofs.OneChart.{SameChart, one-chart}
 use Rattle.claims.proofs.Unwinding.{LowEqual, apart, tells-low}
 
 -- An accepted begin.
-pub begin-permits : (mode : ℕ) (inputs : List ℕ) (allowed limit : ℕ) (r : Runner) → Accepted (begin mode inputs allowed limit) r → Permitted (headerIn r) (isRunning r) mode (length inputs) allowed limit
+pub begin-permits : (mode : ℕ) (inputs : List ℕ) (allowed limit : ℕ) (r : Runner)
+    → Accepted (begin mode inputs allowed limit) r
+    → Permitted (headerIn r) (isRunning r) mode (length inputs) allowed limit
 unfolding check
 begin-permits mode inputs allowed limit r e = permitted (headerIn r) (isRunning r) mode (length inputs) allowed limit e
 
-pub begin-starts : (mode : ℕ) (inputs : List ℕ) (allowed limit : ℕ) (r : Runner) → Accepted (begin mode inputs allowed limit) r → call (begin mode inputs allowed limit) r .next ≡ started r mode inputs allowed (effective limit)
+pub begin-starts : (mode : ℕ) (inputs : List ℕ) (allowed limit : ℕ) (r : Runner)
+    → Accepted (begin mode inputs allowed limit) r
+    → call (begin mode inputs allowed limit) r .next ≡ started r mode inputs allowed (effective limit)
 unfolding carried after
 begin-starts mode inputs allowed limit r e = ap (λ (o : Outcome). o .next) (call-done (begin mode inputs allowed limit) r e)
 
 -- The same start on one chart.
-pub starts-same : (r r′ : Runner) (mode : ℕ) (inputs : List ℕ) (allowed l l′ : ℕ) → SameChart r r′ → l ≡ l′ → started r mode inputs allowed l ≡ started r′ mode inputs allowed l′
+pub starts-same : (r r′ : Runner) (mode : ℕ) (inputs : List ℕ) (allowed l l′ : ℕ)
+    → SameChart r r′
+    → l ≡ l′
+    → started r mode inputs allowed l ≡ started r′ mode inputs allowed l′
 starts-same r r′ mode inputs allowed l l′ s e =
     let inputs-same : r .inputs ≡ r′ .inputs = ap (λ (h : Header). h .inputs) (s .header) in
     let boxes-same : r .boxes ≡ r′ .boxes = ap (λ (h : Header). h .boxes) (s .header) in
@@ -36,7 +43,12 @@ starts-same r r′ mode inputs allowed l l′ s e =
     let table-same = s .table in
     cc
 
-start-low : (r : Runner) (inputs inputs′ : List ℕ) (allowed l : ℕ) → r .inputs ≤ 16 → length inputs ≡ r .inputs → length inputs′ ≡ r .inputs → AllowedAlike allowed inputs inputs′ → LowEqual (started r 1 inputs allowed l) (started r 1 inputs′ allowed l)
+start-low : (r : Runner) (inputs inputs′ : List ℕ) (allowed l : ℕ)
+    → r .inputs ≤ 16
+    → length inputs ≡ r .inputs
+    → length inputs′ ≡ r .inputs
+    → AllowedAlike allowed inputs inputs′
+    → LowEqual (started r 1 inputs allowed l) (started r 1 inputs′ allowed l)
 start-low r inputs inputs′ allowed l few e e′ f =
     apart (firstVars inputs′) refl refl
     (record {

@@ -9,11 +9,12 @@ use Rattle.runner.specs.declared.Runner.{Runner}
 use Rattle.runner.specs.State.{valued, notice, spent, newRunner}
 use Rattle.runner.specs.Calls.{load, begin, advance, chart, running, ended, ending, refused, Reply, Told, Outcome}
 use Rattle.claims.specs.Lists.{fresh, then, begun}
+use Rattle.claims.specs.Demand3.{SameLimit}
 use Rattle.claims.proofs.Branches.{clash}
 use Rattle.claims.proofs.Carried.{not-done}
 use Rattle.examples.specs.Charts.{block, front, halt, chartB, chartC, chartD, chartE}
 use Rattle.examples.specs.Refuted.{HighWaterIsNotSecret, AnotherLimitIsTold, BareAnswersMore, SmallerLimitAnswersLess}
-use Rattle.examples.specs.Refuted.{AdvancesPartAtTheEnd, NoLoadDuringARun, AnotherLoadIsTold}
+use Rattle.examples.specs.Refuted.{OneMore, OneLess, AdvancesPartAtTheEnd, NoLoadDuringARun, AnotherLoadIsTold}
 use Rattle.examples.specs.Witnesses.{justLoaded}
 use Rattle.examples.proofs.Open.{runs-open}
 use Rattle.examples.proofs.Witnesses.{on-one-file, first-withheld, answered}
@@ -26,31 +27,35 @@ first (t ∷ ts) = t .reply
 pub high-water-is-not-secret : HighWaterIsNotSecret
 unfolding runs-open first
 high-water-is-not-secret claim =
-    let begins = on-one-file chartB [] [] refl tt tt refl refl refl in
-    let e : ended 3 ≡ ended 4 = ap first (claim _ _ (0 ∷ []) (4 ∷ []) 0 0 0 begins (first-withheld 0 refl 0 4 []) (advance 4096 ∷ [])) in
+    let r = justLoaded chartB in
+    let told = claim r r (0 ∷ []) (4 ∷ []) 0 0 0 (on-one-file chartB [] [] 2 2 SameLimit (0 ∷ []) (4 ∷ []) 0 0 0 refl tt tt refl refl refl) in
+    let e : ended 3 ≡ ended 4 = ap first (told (first-withheld 0 refl 0 4 []) (advance 4096 ∷ [])) in
     let z : _≡_ {A = ℕ} 3 4 = cc in
     omega arith
 
 pub another-limit-is-told : AnotherLimitIsTold
 unfolding runs-open first
 another-limit-is-told claim =
-    let begins = on-one-file chartC [] [] refl tt tt refl refl refl in
-    let e : ended 1 ≡ running 1 = ap first (claim _ _ [] [] 0 1 2 begins (λ j e. refl) (advance 1 ∷ [])) in
+    let r = justLoaded chartC in
+    let told = claim r r [] [] 0 1 2 (on-one-file chartC [] [] 1 1 OneMore [] [] 0 1 2 refl tt tt refl refl refl) in
+    let e : ended 1 ≡ running 1 = ap first (told (λ j e. refl) (advance 1 ∷ [])) in
     clash cc
 
 pub bare-answers-more : BareAnswersMore
 unfolding runs-open
 bare-answers-more claim =
-    let begins = on-one-file chartD [] [] refl tt tt refl refl refl in
-    let both = claim _ _ (7 ∷ []) 0 0 0 begins 0 2 (answered _ 0 2 refl) (advance 2 ∷ []) (tt, tt) in
+    let r = justLoaded chartD in
+    let told = claim r r (7 ∷ []) 0 0 0 (on-one-file chartD [] [] 0 1 SameLimit (7 ∷ []) (7 ∷ []) 0 0 0 refl tt tt refl refl refl) 0 2 in
+    let both = told (answered (begun 0 (7 ∷ []) 0 0 r) 0 2 refl) (advance 2 ∷ []) (tt, tt) in
     let e : ending notice 2 ≡ ending (valued 0) 2 = ap (λ (t : Told). t .reply) (both .1 refl) in
     clash cc
 
 pub smaller-limit-answers-less : SmallerLimitAnswersLess
 unfolding runs-open
 smaller-limit-answers-less claim =
-    let begins = on-one-file chartE [] [] refl tt tt refl refl refl in
-    let both = claim _ _ (7 ∷ []) 0 2 1 begins 5 2 (answered _ 5 2 refl) (advance 1 ∷ []) (tt, tt) in
+    let r = justLoaded chartE in
+    let told = claim r r (7 ∷ []) 0 2 1 (on-one-file chartE [] [] 2 1 OneLess (7 ∷ []) (7 ∷ []) 0 2 1 refl tt tt refl refl refl) 5 2 in
+    let both = told (answered (begun 2 (7 ∷ []) 0 2 r) 5 2 refl) (advance 1 ∷ []) (tt, tt) in
     let e : ending spent 1 ≡ ending (valued 5) 2 = ap (λ (t : Told). t .reply) (both .1 refl) in
     clash cc
 

@@ -7,17 +7,17 @@ use Rattle.begin.specs.Begin.{allows}
 use Rattle.runner.specs.declared.Runner.{Runner}
 use Rattle.runner.specs.State.{newRunner}
 use Rattle.runner.specs.Calls.{Call, load, begin, advance, answer, call}
-use Rattle.claims.specs.Lists.{fresh, then, Accepted, tells}
-use Rattle.claims.specs.Demand3.{AllowedAlike, Begins, tellsValue, SomeAnswer}
+use Rattle.claims.specs.Lists.{fresh, then, Accepted, begun, tells}
+use Rattle.claims.specs.Demand3.{AllowedAlike, Begins, SameLimit, tellsValue, SomeAnswer}
 use Rattle.claims.specs.OneFile.{since, NoneSince}
 use Rattle.claims.proofs.Carried.{not-done}
 use Rattle.claims.proofs.OneFile.{reached-final, one-file-held}
 use Rattle.examples.specs.Charts.{chartA, chartE}
-use Rattle.examples.specs.Witnesses.{runBare, SecrecyIsMet, AnsweringIsMet}
+use Rattle.examples.specs.Witnesses.{justLoaded, runBare, SecrecyIsMet, AnsweringIsMet}
 use Rattle.examples.proofs.Open.{runs-open}
 
 -- Two begins on runners that have loaded one file.
-pub on-one-file : (file : List ℕ) (past past′ : List Call) {mode mode′ : ℕ} {Limits : ℕ → ℕ → Type 0} {inputs inputs′ : List ℕ} {allowed limit limit′ : ℕ}
+pub on-one-file : (file : List ℕ) (past past′ : List Call) (mode mode′ : ℕ) (Limits : ℕ → ℕ → Type 0) (inputs inputs′ : List ℕ) (allowed limit limit′ : ℕ)
     → Accepted (load file) newRunner
     → NoneSince file past newRunner
     → NoneSince file past′ newRunner
@@ -25,7 +25,7 @@ pub on-one-file : (file : List ℕ) (past past′ : List Call) {mode mode′ : �
     → Accepted (begin mode inputs allowed limit) (since file past newRunner)
     → Accepted (begin mode′ inputs′ allowed limit′) (since file past′ newRunner)
     → Begins mode mode′ Limits (since file past newRunner) (since file past′ newRunner) inputs inputs′ allowed limit limit′
-on-one-file file past past′ loads n n′ l a a′ =
+on-one-file file past past′ mode mode′ Limits inputs inputs′ allowed limit limit′ loads n n′ l a a′ =
     record {
       made = reached-final past (then fresh (load file));
       made′ = reached-final past′ (then fresh (load file));
@@ -47,14 +47,17 @@ answered start v steps e = (advance 2 ∷ answer ∷ [], (tt, (tt, tt)), List·M
 
 pub secrecy-is-met : SecrecyIsMet
 unfolding runs-open
-secrecy-is-met =
-    (on-one-file chartA [] (runBare (1 ∷ 2 ∷ [])) refl tt (tt, (tt, tt)) refl refl refl, first-withheld 2 refl 7 8 (9 ∷ []), refl)
+secrecy-is-met = (
+  on-one-file chartA [] (runBare (1 ∷ 2 ∷ [])) 1 1 SameLimit (7 ∷ 9 ∷ []) (8 ∷ 9 ∷ []) 2 0 4096 refl tt (tt, (tt, tt)) refl refl refl,
+  first-withheld 2 refl 7 8 (9 ∷ []),
+  refl,
+)
 
 pub answering-is-met : AnsweringIsMet
 unfolding runs-open
 answering-is-met = (
-  on-one-file chartE [] (runBare (3 ∷ [])) refl tt (tt, (tt, tt)) refl refl refl,
-  answered _ 5 2 refl,
+  on-one-file chartE [] (runBare (3 ∷ [])) 2 1 SameLimit (7 ∷ []) (7 ∷ []) 0 2 2 refl tt (tt, (tt, tt)) refl refl refl,
+  answered (begun 2 (7 ∷ []) 0 2 (justLoaded chartE)) 5 2 refl,
   (tt, (not-done, (not-done, (tt, (tt, (tt, (not-done, (tt, tt)))))))),
   refl,
 )
