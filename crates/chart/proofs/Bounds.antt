@@ -1,7 +1,6 @@
 -- The claims at their exact bounds, each from the theorem of its claim and nothing else: ranges say that a number is not the next one, kind by
 -- kind of box. Assumes nothing.
 use Prim.Native.Nat.{ℕ}
-use mathlib.Core.Path.{_≡_}
 use mathlib.Core.List.{List}
 use native.Mathlib.Omega.{arith}
 use Rattle.format.specs.declared.Header.{Header}

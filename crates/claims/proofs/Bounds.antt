@@ -1,13 +1,12 @@
 -- The claims at their exact bounds, each from the theorem of its claim and nothing else. Assumes nothing.
 use Prim.Native.Nat.{ℕ, _+_}
-use mathlib.Core.Path.{_≡_, refl, ap, sym, _∙_, subst}
+use mathlib.Core.Path.{_≡_, ap, sym, _∙_}
 use mathlib.Core.List.{List, [], _∷_, _++_, append-nil}
-use mathlib.Core.Logic.{_≢_}
 use native.Mathlib.Omega.{arith}
 use lib.ListN.{length, drop}
 use lib.Seq.{drop-length}
 use Rattle.chart.proofs.Bounds.{header-bounds, box-bounds}
-use Rattle.runner.specs.Calls.{advance, wrote, Told}
+use Rattle.runner.specs.Calls.{advance, wrote}
 use Rattle.claims.specs.Lists.{final, amount, asked}
 use Rattle.claims.specs.Bounds.{AnswersAtTheLimit, RunsWithinBounds, WrittenIntoExactRoom, HeldWithinBounds, StatesWithinBounds}
 use Rattle.claims.proofs.Demand3.{demand3}

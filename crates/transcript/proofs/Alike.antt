@@ -2,7 +2,7 @@
 -- counts lines. Assumes nothing.
 use Prim.Native.Nat.{ℕ, zero, suc, _+_, _^_, _%_, _<_}
 use mathlib.Core.Path.{_≡_, refl, ap, sym, _∙_}
-use mathlib.Core.List.{List, [], _∷_, _++_, append-nil}
+use mathlib.Core.List.{List, [], _∷_, _++_}
 use mathlib.Core.Bool.{Bool, true, false, cond}
 use native.Mathlib.Omega.{arith}
 use lib.Dec.{eqb}

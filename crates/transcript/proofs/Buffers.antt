@@ -3,12 +3,11 @@
 use Prim.Native.Nat.{ℕ, zero, suc, _+_, _-_, _≤_, _<_, min}
 use mathlib.Core.Path.{_≡_, refl, ap, sym, _∙_, subst}
 use mathlib.Core.List.{List, [], _∷_, _++_, append-assoc, append-nil}
-use mathlib.Core.Bool.{Bool, true, false, cond}
+use mathlib.Core.Bool.{Bool, true, false}
 use mathlib.Core.Logic.{_⊎_, inl, inr}
 use native.Mathlib.Decide.{ℕ-discrete, decLt}
 use native.Mathlib.Numerals.{add-one}
 use native.Mathlib.Omega.{arith}
-use lib.Dec.{ltb}
 use lib.ListN.{length, getD, take, drop, set, length-append, length-take, length-drop, length-set, drop-of-length-le}
 use lib.Seq.{take-nil, take-length, take-all, take-at, take-take, take-suc, drop-drop, getD-append-add, getD-drop, length-take-le}
 use borrow.Author.Tests.{lt-ltb, le-ltb}
@@ -21,7 +20,6 @@ use Rattle.runner.specs.declared.Runner.{Runner}
 use Rattle.reply.specs.Reply.{respond}
 use Rattle.transcript.specs.Lines.{linesIn}
 use Rattle.transcript.specs.Session.{following, Portion, none, onto, portion, feed, fedOf, kept}
-use Rattle.transcript.specs.declared.Fed.{Fed}
 use Rattle.transcript.proofs.Lines.{lastLine, first-line, last-line}
 
 pub drop-min : (n : ℕ) (l : List ℕ) → drop (min n (length l)) l ≡ drop n l

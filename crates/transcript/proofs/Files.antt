@@ -2,13 +2,12 @@
 use Prim.Native.Nat.{ℕ, _<_}
 use mathlib.Core.Path.{_≡_, refl, ap, sym, _∙_}
 use mathlib.Core.List.{List, []}
-use mathlib.Core.Bool.{Bool, false}
 use native.Mathlib.Decide.{decLt}
 use native.Mathlib.Omega.{arith}
 use lib.ListN.{length, take, length-take}
 use lib.Seq.{take-all}
 use borrow.Author.Tests.{ne-eqb}
-use Rattle.format.specs.File.{lengthRule, refusal, checkFile}
+use Rattle.format.specs.File.{refusal, checkFile}
 use Rattle.format.specs.declared.Checked.the-variants.{Refused}
 use Rattle.runner.specs.State.{newRunner}
 use Rattle.runner.specs.Calls.{fileVerdict, check, carried, call}

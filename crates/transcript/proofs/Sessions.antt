@@ -1,6 +1,6 @@
 -- The claims of a session, by induction on what it has done. Kept at every turn: what is written, and the answers to the bytes at hand with whatever comes
 -- later, are the answers to all that was read with whatever comes later (Stands). Assumes nothing.
-use Prim.Native.Nat.{ℕ, _+_, _^_, _≤_, _<_}
+use Prim.Native.Nat.{ℕ, _^_, _≤_, _<_}
 use mathlib.Core.Path.{_≡_, refl, ap, sym, _∙_, subst}
 use mathlib.Core.List.{List, [], _∷_, _++_, append-assoc, append-nil, flatten}
 use mathlib.Core.Bool.{Bool, true, false, cond, false≢true}
@@ -11,7 +11,7 @@ use borrow.Author.Tests.{ltb-true, ltb-false}
 use Rattle.runner.specs.declared.Runner.{Runner}
 use Rattle.transcript.specs.Lines.{linesIn, linesOf, wholeLines}
 use Rattle.transcript.specs.Transcript.{answers, greeting, isChart, holder, transcript}
-use Rattle.transcript.specs.Session.{Portion, portion, feed, State, Turn, write, read, stop, kept, turn, received, failed}
+use Rattle.transcript.specs.Session.{Portion, portion, feed, State, Turn, write, read, stop, kept, turn, received}
 use Rattle.transcript.specs.Claims.{Input, going, ended, broken, Done, start, writes, reads, ends, fails, Fits, WritesTranscript, AnswersFirst, BeginsTranscript, WritesEnd}
 use Rattle.transcript.proofs.Lines.{clash, Later, fewer-whole}
 use Rattle.transcript.proofs.Alike.{counted, counted-is, counted-kept}

@@ -12,7 +12,7 @@ use lib.Signed.{ltZ}
 use borrow.Author.Tests.{ltb-true, lt-ltb, le-ltb}
 use Rattle.io.specs.Counts.{Counts, clamped}
 use Rattle.lists.proofs.Parts.{take-min}
-use Rattle.transcript.specs.Session.{Portion, feed, fedOf, kept, turn, write, read, stop, wantedOf, stateOf, received, readBy}
+use Rattle.transcript.specs.Session.{Portion, feed, fedOf, kept, turn, read, stop, wantedOf, stateOf, received, readBy}
 use Rattle.runner.specs.declared.Runner.{Runner}
 use Rattle.transcript.specs.declared.Session.{Session}
 use Rattle.transcript.specs.declared.Fed.{Fed}

@@ -8,7 +8,7 @@ use Rattle.runner.specs.State.{newRunner}
 use Rattle.reply.specs.Reply.{loaded}
 use Rattle.transcript.specs.Lines.{linesOf, wholeLines}
 use Rattle.transcript.specs.Transcript.{answers, greeting, isChart, holder, transcript}
-use Rattle.transcript.specs.Session.{State, Turn, write, read, stop, turn, received, failed}
+use Rattle.transcript.specs.Session.{State, write, read, stop, turn, received, failed}
 
 -- How far an input has come: it may go on, it has ended, or a read of it has failed.
 pub data Input : Type 0 where

@@ -31,7 +31,7 @@ pub enum Wanted {
     Stop,
 }
 
-// What a turn wants; the length of the text that is to be written is 0 where none is.
+// What a turn wants, and the length of the text where one is to be written.
 pub struct Turned {
     pub session: Session,
     pub wanted: Wanted,
