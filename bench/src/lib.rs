@@ -2,6 +2,7 @@
 pub mod by_value;
 pub mod charts;
 pub mod exported;
+pub mod kinds;
 pub mod lines;
 pub mod plain;
 pub mod random;

@@ -1,22 +1,9 @@
-//! Many rounds of one call, what each told folded into a sum: the same rounds as `crates/rounds`, for both plain runners.
+//! Many rounds of one call, or of a health check, for both plain runners; what each told is folded into a sum. The rounds are those of
+//! `crates/bench_rounds` and `crates/bench_checks`.
 use crate::by_value;
+use crate::kinds::numbers;
 use crate::plain;
 use crate::plain::Told;
-
-/// What a call tells as three numbers.
-pub fn numbers(told: Told) -> [u32; 3] {
-    match told {
-        Told::Done => [0, 0, 0],
-        Told::Chart { inputs, boxes } => [1, inputs.into(), boxes.into()],
-        Told::Running(steps) => [2, steps, 0],
-        Told::Ended(steps) => [3, steps, 0],
-        Told::Value { value, steps } => [4, value, steps],
-        Told::Notice(steps) => [5, steps, 0],
-        Told::Spent(steps) => [6, steps, 0],
-        Told::Refused(number, detail) => [7, number, detail],
-        Told::Written(length) => [8, length as u32, 0],
-    }
-}
 
 pub fn fold(sum: u64, word: u32) -> u64 {
     (sum ^ sum >> 7).wrapping_add(word.into())

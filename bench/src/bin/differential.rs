@@ -1,10 +1,10 @@
 //! Random and damaged charts and lists of calls through the exported functions and through plain Rust, for so many seconds, to the first difference.
 //!
 //! `differential SECONDS [SEED]`
+use bench::kinds::{numbers, shown};
 use bench::plain::{show_box, Runner};
 use bench::random::Random;
-use bench::rounds::numbers;
-use bench::{charts, exported};
+use bench::{charts, exported, kinds};
 use std::time::{Duration, Instant};
 
 const STRIDE: usize = 24;
@@ -97,7 +97,7 @@ fn plain(runner: &mut Runner, files: &[u8], words: &[u32; STRIDE], buf: &mut [u8
         }
         _ => {
             let part = show_box(file(), words[3]);
-            ([9, part.len() as u32, 0], sum_of(part))
+            (shown(part), sum_of(part))
         }
     };
     [told[0], told[1], told[2], sum]
@@ -110,7 +110,7 @@ fn main() {
     let end = Instant::now() + Duration::from_secs(seconds);
     let mut random = Random::new(seed);
     let (mut scripts, mut calls) = (0u64, 0u64);
-    let mut kinds = [0u64; 10];
+    let mut counts = [0u64; kinds::NAMES.len()];
     while Instant::now() < end {
         let script = script(&mut random);
         let flat: Vec<u32> = script.words.iter().flatten().copied().collect();
@@ -122,7 +122,7 @@ fn main() {
         let mut runner = Runner::new();
         for (i, (words, told)) in script.words.iter().zip(told.chunks(4)).enumerate() {
             let expected = plain(&mut runner, &script.files, words, &mut theirs);
-            kinds[expected[0] as usize] += 1;
+            counts[expected[0] as usize] += 1;
             if told != expected {
                 println!("seed {seed}, list {scripts}, call {i}: {words:?}");
                 println!("the library told {told:?}, plain Rust {expected:?}");
@@ -134,8 +134,7 @@ fn main() {
         calls += made as u64;
     }
     println!("{scripts} lists, {calls} calls, no difference");
-    let names = ["done", "chart", "running", "ended", "value", "notice", "spent", "refused", "written", "shown"];
-    for (name, count) in names.iter().zip(kinds) {
+    for (name, count) in kinds::NAMES.iter().zip(counts) {
         println!("{name} {count}");
     }
 }

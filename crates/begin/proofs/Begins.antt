@@ -1,58 +1,17 @@
--- What an accepted begin says of its arguments (permitted, under-way), and laws of what a run begins with: the limit, the lengths of the variables
--- and marks, each of them by its place, and that two begins agree on what has no mark. Assumes nothing.
-use Prim.Native.Nat.{ℕ, zero, suc, _-_, _/_, _^_, _≤_, _<_, min}
+-- Laws of what a run begins with: the limit, the lengths of the variables and marks, each of them by its place, and that two begins agree on what
+-- has no mark. Assumes nothing.
+use Prim.Native.Nat.{ℕ, zero, suc, _-_, _≤_, _<_, min}
 use mathlib.Core.Path.{_≡_, refl, ap, sym, _∙_, subst}
 use mathlib.Core.Logic.{⊎-elim}
 use mathlib.Core.List.{List, [], _∷_, _++_}
-use mathlib.Core.Bool.{Bool, true, false, cond, not, true≢false}
+use mathlib.Core.Bool.{Bool, true, false, cond}
 use native.Mathlib.Nat.{eq-or-lt-of-le}
 use native.Mathlib.Decide.{decLt}
 use native.Mathlib.Omega.{arith}
-use lib.Dec.{eqb, ltb, eqb·suc-zero}
+use lib.Dec.{eqb·suc-zero}
 use lib.ListN.{length, getD, take, replicate, length-append, length-take, length-replicate, List·getD-append, List·getD-eq-default}
 use lib.Seq.{take-all, getD-at}
-use borrow.Author.Tests.{ltb-false, eqb-true, not-false}
-use Rattle.format.specs.File.{inRange}
-use Rattle.format.specs.declared.Header.{Header}
-use Rattle.begin.specs.Begin.{refuse, beginVerdict, effective, allows, firstVars, withheldMark, withheldMarks, firstMarks}
-use Rattle.begin.specs.declared.Verdict.{Verdict}
-use Rattle.begin.specs.declared.Verdict.the-variants.{Done}
-
--- An accepted begin: each check has passed.
-pub record Permitted (h : Header) (running : Bool) (mode count allowed limit : ℕ) : Type 0 where
-  pub held : inRange h ≡ true
-  pub resting : running ≡ false
-  pub known : mode ≤ 2
-  pub lent : count ≡ h .inputs
-  pub below : allowed / 2 ^ h .inputs ≡ 0
-  pub fits : limit ≤ 65535
-
-passed : (b : Bool) {x : Verdict} (number : ℕ) → cond b (refuse number) x ≡ Done → (b ≡ false) × (x ≡ Done)
-passed true number e = let z : _≡_ {A = ℕ} 0 1 = cc in absurd (omega arith)
-passed false number e = (refl, e)
-
-pub permitted : (h : Header) (running : Bool) (mode count allowed limit : ℕ) → beginVerdict h running mode count allowed limit ≡ Done
-    → Permitted h running mode count allowed limit
-unfolding beginVerdict
-permitted h running mode count allowed limit e =
-    let one = passed (not (inRange h)) 21 e in
-    let two = passed running 22 (one .1) in
-    let three = passed (ltb 2 mode) 7 (two .1) in
-    let four = passed (not (eqb count (h .inputs))) 9 (three .1) in
-    let five = passed (not (eqb (allowed / 2 ^ h .inputs) 0)) 8 (four .1) in
-    let six = passed (ltb 65535 limit) 10 (five .1) in
-    record {
-      held = not-false _ (one .0);
-      resting = two .0;
-      known = ltb-false 2 mode (three .0);
-      lent = eqb-true _ _ (not-false _ (four .0));
-      below = eqb-true _ _ (not-false _ (five .0));
-      fits = ltb-false 65535 limit (six .0);
-    }
-
--- A run that is under way keeps another from beginning.
-pub under-way : (h : Header) (mode count allowed limit : ℕ) → beginVerdict h true mode count allowed limit ≡ Done → ⊥
-under-way h mode count allowed limit e = true≢false (permitted h true mode count allowed limit e .resting)
+use Rattle.begin.specs.Begin.{effective, allows, firstVars, withheldMark, withheldMarks, firstMarks}
 
 pub effective-positive : (l : ℕ) → 0 < effective l
 unfolding effective

@@ -1,33 +1,16 @@
--- "Begin: takes mode (0 bare, 1 surveillance, 2 high-water), inputs, allowed set, limit."
+-- What a run begins with: its limit, its variables and their marks.
 use Prim.Native.Nat.{ℕ, zero, suc, _-_, _/_, _%_, _^_, min}
 use mathlib.Core.List.{List, [], _∷_, _++_}
-use mathlib.Core.Bool.{Bool, cond, not}
-use lib.Dec.{eqb, ltb}
+use mathlib.Core.Bool.{Bool, cond}
+use lib.Dec.{eqb}
 use lib.ListN.{length, take, replicate}
-use Rattle.format.specs.File.{inRange, refusal}
-use Rattle.format.specs.declared.Header.{Header}
-use Rattle.begin.specs.declared.Verdict.{Verdict}
-use Rattle.begin.specs.declared.Verdict.the-variants.{Done, Refused}
-
--- A refusal whose detail is 0.
-abbrev pub refuse : ℕ → Verdict
-refuse number = Refused (refusal number 0)
-
--- "Begin: 21, 22, 7, 9, 8, 10." "21: no chart held"; "22: a run is under way"; "7: mode above 2"; "9: the inputs lent aren't k in
--- number"; "8: the allowed set has a bit at k or above"; "10: limit above 65,535".
-unfoldable pub beginVerdict : Header → Bool → (mode count allowed limit : ℕ) → Verdict
-beginVerdict h running mode count allowed limit =
-    cond (not (inRange h)) (refuse 21)
-    (cond running (refuse 22)
-    (cond (ltb 2 mode) (refuse 7)
-    (cond (not (eqb count (h .inputs))) (refuse 9)
-    (cond (not (eqb (allowed / 2 ^ h .inputs) 0)) (refuse 8)
-    (cond (ltb 65535 limit) (refuse 10)
-    Done)))))
 
 -- "Limit 0 means 4,096; 1 to 65,535 mean themselves."
+abbrev pub limitForNone : ℕ
+limitForNone = 4096
+
 unfoldable pub effective : ℕ → ℕ
-effective limit = cond (eqb limit 0) 4096 limit
+effective limit = cond (eqb limit 0) limitForNone limit
 
 -- "An allowed set is a number whose bit j (worth 2 to the power j) allows input j."
 abbrev pub allows : ℕ → ℕ → Bool

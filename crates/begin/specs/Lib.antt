@@ -1,2 +1,2 @@
--- Begin, in document 01's words.
+-- What a run begins with, in document 01's words.
 pub mod Begin

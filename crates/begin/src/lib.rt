@@ -1,61 +1,16 @@
-// Begin: its refusals in order, and the variables, marks and limit that a run begins with.
-use format::Header;
-use format::Refusal;
+// What a run begins with: the limit, the variables and their marks.
 ghost use mathlib.Core.Path.{_≡_};
 ghost use Prim.Native.Nat.{_<_, min};
-ghost use Rattle.format.specs.File.{refusal};
-ghost use Rattle.begin.specs.Begin.{beginVerdict, effective, withheldMark, firstVars, firstMarks};
+ghost use Rattle.begin.specs.Begin.{effective, withheldMark, firstVars, firstMarks};
 
-// Done, or refused.
-pub enum Verdict {
-    Done,
-    Refused(Refusal),
-}
-
-pub fn refuse(number: u32) -> Verdict
-    ensures { λ r. ⌜ r ≡ Verdict.Refused (refusal number 0) ⌝ }
-{
-    Verdict::Refused(Refusal { number, detail: 0 })
-}
-
-// The verdict on a begin, by the header of the chart held, whether a run is under way, and the arguments; `count` is the number of inputs lent.
-pub fn check(
-    header: Header,
-    running: bool,
-    mode: u32,
-    count: usize,
-    allowed: u32,
-    limit: u32,
-) -> Verdict
-    ensures { λ r. ⌜ r ≡ beginVerdict header running mode count allowed limit ⌝ }
-{
-    if !format::in_range(header) {
-        return refuse(21);
-    }
-    if running {
-        return refuse(22);
-    }
-    if 2 < mode {
-        return refuse(7);
-    }
-    let k = header.inputs;
-    if count != widen::to_usize(k) {
-        return refuse(9);
-    }
-    if (allowed >> k) != 0 {
-        return refuse(8);
-    }
-    if 65535 < limit {
-        return refuse(10);
-    }
-    Verdict::Done
-}
+// The limit that 0 means.
+const LIMIT_FOR_NONE: u32 = 4096;
 
 // The limit that a number means.
 pub fn effective(limit: u32) -> u32
     ensures { λ r. ⌜ r ≡ effective limit ⌝ }
 {
-    if limit == 0 { 4096 } else { limit }
+    if limit == 0 { LIMIT_FOR_NONE } else { limit }
 }
 
 fn at_most_32(n: usize) -> usize

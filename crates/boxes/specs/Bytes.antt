@@ -1,5 +1,5 @@
 -- What the rules of the chart file say of lists of bytes.
-use Prim.Native.Nat.{ℕ}
+use Prim.Native.Nat.{ℕ, _*_}
 use mathlib.Core.List.{List, [], _∷_}
 use mathlib.Core.Bool.{Bool, true, _&&_}
 use lib.Dec.{eqb}
@@ -17,3 +17,7 @@ part bytes i size = take size (drop i bytes)
 unfoldable pub allZero : List ℕ → Bool
 allZero [] = true
 allZero (b ∷ bytes) = eqb b 0 && allZero bytes
+
+-- Box p of a table of boxes, ten bytes each.
+abbrev pub boxOf : List ℕ → ℕ → List ℕ
+boxOf table p = part table (10 * p) 10

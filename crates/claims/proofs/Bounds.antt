@@ -5,22 +5,23 @@ use mathlib.Core.List.{List, [], _∷_, _++_, append-nil}
 use native.Mathlib.Omega.{arith}
 use lib.ListN.{length, drop}
 use lib.Seq.{drop-length}
-use Rattle.chart.proofs.Bounds.{header-bounds, box-bounds}
-use Rattle.runner.specs.Calls.{advance, wrote}
-use Rattle.claims.specs.Lists.{final, amount, asked}
+use Rattle.chart_claims.proofs.Bounds.{header-bounds, box-bounds}
+use Rattle.calls.specs.Calls.{advance}
+use Rattle.runner.specs.Outcomes.{wrote}
+use Rattle.claims.specs.Lists.{final, asked}
 use Rattle.claims.specs.Bounds.{AnswersAtTheLimit, RunsWithinBounds, WrittenIntoExactRoom, HeldWithinBounds, StatesWithinBounds}
 use Rattle.claims.proofs.Demand3.{demand3}
 use Rattle.claims.proofs.RunLaws.{counts-boxes, limit-ends, within-limit}
 use Rattle.claims.proofs.ChartLaws.{held-obeys, runs-in-range, ends-in-range, loaded-is-written}
 
 pub answers-at-the-limit : AnswersAtTheLimit
-unfolding final amount asked
+unfolding final asked
 answers-at-the-limit r r′ inputs allowed limit limit′ b v steps w =
     let d = demand3 .1 r r′ inputs allowed limit limit′ b v steps w (advance _ ∷ []) (tt, tt) in
     d .1 (d .0 (omega arith))
 
 pub runs-within-bounds : RunsWithinBounds
-unfolding amount asked
+unfolding asked
 runs-within-bounds r mode inputs allowed limit a =
     record {
       ends = limit-ends r mode inputs allowed limit a (advance _ ∷ []) (tt, tt) (omega arith);
@@ -43,13 +44,13 @@ held-within-bounds r g h =
       header = header-bounds (o .header);
       formed = λ p l. o .formed p (omega arith);
       ranged = λ p l. box-bounds (o .ranged p (omega arith));
-      zero = o .zero (r .boxes) (omega arith);
+      zero = o .zero (r .header .boxes) (omega arith);
     }
 
 pub states-within-bounds : StatesWithinBounds
 states-within-bounds = (
   (λ r g e.
-      let u = runs-in-range r g e in
+      let u = runs-in-range r g e .ranged in
       record {
         at = omega arith;
         mode = omega arith;

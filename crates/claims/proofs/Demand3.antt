@@ -1,126 +1,99 @@
--- Demand 3 whole. The second half: a list that tells a value after the high-water begin comes from a run that ended so; the surveillance run of
--- the same start keeps pace with it; and lists of such calls only run boxes. Assumes nothing.
+-- Demand 3 whole. The second half: a list that tells a value after the high-water begin comes from a run that is over with it; the surveillance run
+-- of the same start keeps pace; and lists of calls that continue a run only run boxes. Assumes nothing.
 use Prim.Native.Nat.{ℕ, _+_}
 use mathlib.Core.Path.{_≡_, refl, ap, sym, _∙_, subst}
-use mathlib.Core.List.{List, [], _∷_, List·Memᴰ, List·Memᴰ·cases-cons, List·Memᴰ·not-nil}
-use mathlib.Core.Logic.{_⊎_, inl, inr}
-use mathlib.Core.Bool.{Bool, true, false, cond}
+use mathlib.Core.List.{List, List·Memᴰ}
 use native.Mathlib.Nat.{add-comm}
 use native.Mathlib.Omega.{arith}
-use lib.Dec.{eqb}
-use borrow.Author.Tests.{eqb-true}
 use Rattle.begin.specs.Begin.{effective}
-use Rattle.begin.specs.declared.Verdict.{Verdict}
-use Rattle.begin.specs.declared.Verdict.the-variants.{Done, Refused}
 use Rattle.begin.proofs.Begins.{effective-positive}
+use Rattle.machine.specs.Run.{Run, Ending, valued, Progress, going, over, run}
+use Rattle.machine.proofs.Runs.{over-twice}
+use Rattle.calls.specs.Calls.{Call, load, begin, advance, answer, abandon, writeBack, check}
+use Rattle.calls.specs.declared.Verdict.{Verdict}
+use Rattle.calls.specs.declared.Verdict.the-variants.{Done, Refused}
 use Rattle.runner.specs.declared.Runner.{Runner}
-use Rattle.runner.specs.State.{isRunning, isEnded, valued, notice, spent, endingIn}
-use Rattle.runner.specs.Step.{run}
-use Rattle.runner.specs.Calls.{Call, load, begin, advance, answer, abandon, writeBack, running, ending, Told, Outcome, check, says, leaves, started, carried, call}
-use Rattle.runner.specs.Calls as calls
-use Rattle.runner.proofs.Runs.{run-add}
-use Rattle.claims.specs.Lists.{Accepted, begun, tells, final, AllSuch, amount, asked}
+use Rattle.runner.specs.State.{chartIn, standingOf, ran, resumed}
+use Rattle.runner.specs.Whole.{startOf}
+use Rattle.runner.specs.Outcomes.{ending, Told, progressReply, says, outcomeBy, call}
+use Rattle.claims.specs.Lists.{Accepted, begun, tells, final, AllContinue, asked}
 use Rattle.claims.specs.Demand3.{tellsValue, AnswersAsHighWater, Demand3}
 use Rattle.claims.proofs.Branches.{clash}
-use Rattle.claims.proofs.Carried.{call-done}
+use Rattle.claims.proofs.Counting.{Over, run-ends}
+use Rattle.claims.proofs.Continuing.{over-answers, over-says, over-tells, going-does-not-answer, answered-over, told-at, from-start, final-from}
 use Rattle.claims.proofs.OneChart.{one-chart}
-use Rattle.claims.proofs.Secrecy.{begin-permits, begin-starts, starts-same, noninterference}
-use Rattle.claims.proofs.SuchCalls.{running-accepts, such-next, such-final, ended-still, run-ends}
-use Rattle.claims.proofs.Pace.{Pace, level, run-pace, Valued, pace-value}
+use Rattle.claims.proofs.Pace.{Pace, level, run-pace, pace-value}
+use Rattle.claims.proofs.Secrecy.{begin-permits, begin-starts, started, starts-same, noninterference}
 
--- An answer is accepted where a run has ended.
-pub ended-answers : (r : Runner) → isEnded r ≡ true → Accepted answer r
-unfolding check
-ended-answers r e = rw e
+-- Which call tells a value: an answer, of a run that is over with it.
+module _ (r : Runner) (on : r .state ≡ 1) (v steps : ℕ) where
+  no-progress : (p : Progress) → ending (valued v) steps ≡ progressReply p → ⊥
+  unfolding progressReply
+  no-progress (going q) e = clash cc
+  no-progress (over k n) e = clash cc
 
-pub answers-ended : (r : Runner) → Accepted answer r → isEnded r ≡ true
-unfolding check
-answers-ended r e = running-accepts (isEnded r) 24 e
+  ending-once : {e e′ : Ending} {n n′ : ℕ} → ending e n ≡ ending e′ n′ → over e n ≡ over e′ n′
+  ending-once e = cc
 
--- Which call tells a value: an answer, of a run that ended so.
-value-ended : (r : Runner) (v steps : ℕ) → ending (valued v) steps ≡ ending (endingIn r) (r .count) → Valued r v steps
-value-ended r v steps e = on (eqb (r .state) 2) refl (eqb (r .state) 3) e
-  where
-    on : (b : Bool) → eqb (r .state) 2 ≡ b → (c : Bool) → ending (valued v) steps ≡ ending (cond b (valued (r .value)) (cond c notice spent)) (r .count) → Valued r v steps
-    on true q c z = record { state = eqb-true _ _ q; value = cc; count = cc }
-    on false q true z = clash cc
-    on false q false z = clash cc
+  said-value : (c : Call) (p : Progress) → Accepted c (resumed p r) → ending (valued v) steps ≡ says c (resumed p r) → p ≡ over (valued v) steps
+  unfolding says
+  said-value (load f) p h e = clash cc
+  said-value (begin m i a l) p h e = clash cc
+  said-value (advance m) p h e = absurd (no-progress (ran m (resumed p r)) e)
+  said-value answer (going q) h e = absurd (going-does-not-answer r on q h)
+  said-value answer (over k n) h e = ending-once (sym (over-says r on k n) ∙ sym e)
+  said-value abandon p h e = clash cc
+  said-value (writeBack b) p h e = clash cc
 
-told-value : (x : Verdict) (c : Call) (r : Runner) (v steps : ℕ) → check c r ≡ x → ending (valued v) steps ≡ carried x c r .told .reply → Valued r v steps
-unfolding carried says
-told-value (Refused x) c r v steps h e = clash cc
-told-value Done (load f) r v steps h e = clash cc
-told-value Done (begin m i a l) r v steps h e = clash cc
-told-value Done (advance m) r v steps h e = on (isRunning (run m r)) e
-  where
-    on : (b : Bool) → ending (valued v) steps ≡ cond b (running (run m r .steps)) (calls.ended (run m r .count)) → Valued r v steps
-    on true z = clash cc
-    on false z = clash cc
-told-value Done answer r v steps h e = value-ended r v steps e
-told-value Done abandon r v steps h e = clash cc
-told-value Done (writeBack b) r v steps h e = clash cc
+  told-value : (c : Call) (p : Progress) → tellsValue v steps ≡ call c (resumed p r) .told → p ≡ over (valued v) steps
+  unfolding call outcomeBy
+  told-value c p e = by (check c (standingOf (resumed p r))) refl (ap (λ (t : Told). t .reply) e)
+    where
+      by : (x : Verdict) → check c (standingOf (resumed p r)) ≡ x → ending (valued v) steps ≡ outcomeBy x c (resumed p r) .told .reply → p ≡ over (valued v) steps
+      by Done d q = said-value c p d q
+      by (Refused x) d q = clash cc
 
--- A run that ends with a value after some boxes.
-record EndsSo (r : Runner) (v steps : ℕ) : Type 0 where
-  boxes : ℕ
-  so : Valued (run boxes r) v steps
-
-list-ends : (cs : List Call) (r : Runner) (v steps : ℕ) → AllSuch cs r → List·Memᴰ (tellsValue v steps) (tells cs r) → EndsSo r v steps
-unfolding tells run call
-list-ends [] r v steps q m = absurd (List·Memᴰ·not-nil m)
-list-ends (c ∷ cs) r v steps q m = on (list-ends cs (call c r .next) v steps (q .1)) (List·Memᴰ·cases-cons m)
-  where
-    on : (List·Memᴰ (tellsValue v steps) (tells cs (call c r .next)) → EndsSo (call c r .next) v steps)
-        → (tellsValue v steps ≡ call c r .told) ⊎ List·Memᴰ (tellsValue v steps) (tells cs (call c r .next))
-        → EndsSo r v steps
-    on f (inl e) = record { boxes = 0; so = told-value (check c r) c r v steps refl (ap (λ (t : Told). t .reply) e) }
-    on f (inr n) =
-        let h : EndsSo (run (amount c) r) v steps = subst (λ (x : Runner). EndsSo x v steps) (such-next c r (q .0)) (f n) in
-        record { boxes = amount c + h .boxes; so = subst (λ (x : Runner). Valued x v steps) (sym (run-add (amount c) (h .boxes) r)) (h .so) }
+  -- A list that tells a value: after so many boxes the run is over with it.
+  list-tells : (cs : List Call) (p : Progress) → AllContinue cs (resumed p r) → List·Memᴰ (tellsValue v steps) (tells cs (resumed p r))
+      → (boxes : ℕ) × (run (r .table) boxes p ≡ over (valued v) steps)
+  list-tells cs p q m = let x = told-at r on cs p q (tellsValue v steps) m in (x .boxes, told-value (x .by) (run (r .table) (x .boxes) p) (x .is))
 
 -- One start in both modes.
 module _ (r : Runner) (inputs : List ℕ) (allowed limit : ℕ) where
-  high : Runner
-  high = started r 2 inputs allowed limit
+  abbrev startIn : ℕ → Run
+  startIn mode = startOf mode inputs allowed limit (r .header)
 
-  surveyed : Runner
-  surveyed = started r 1 inputs allowed limit
+  start-pace : Pace (going (startIn 2)) (going (startIn 1))
+  start-pace = level {q = startIn 2} (startIn 1 .marks) refl refl (record { long = refl; under = λ j e. e })
 
-  start-pace : Pace high surveyed
-  unfolding high surveyed
-  start-pace = level (surveyed .marks) refl refl refl (record { long = refl; under = λ j e. e })
-
-  ended-twice : (h : Runner) (n m : ℕ) → isEnded (run n h) ≡ true → run (n + m) h ≡ run n h
-  ended-twice h n m e = run-add n m h ∙ ended-still m (run n h) e
-
-  surveyed-value : (n v steps : ℕ) → EndsSo high v steps → isEnded (run n surveyed) ≡ true → Valued (run n surveyed) v steps
-  surveyed-value n v steps h e =
-      let p = h .boxes in
-      let over : isEnded (run p high) ≡ true = rw (h .so .state) in
-      let there : run (p + n) high ≡ run p high = ended-twice high p n over in
-      let here : run (p + n) surveyed ≡ run n surveyed = ap (λ (k : ℕ). run k surveyed) (add-comm p n) ∙ ended-twice surveyed n p e in
-      pace-value v steps (subst (λ (x : Runner). Pace (run p high) x) here (subst (λ (x : Runner). Pace x (run (p + n) surveyed)) there (run-pace (p + n) start-pace))) (h .so) e
-
-answer-value : (r : Runner) (v steps : ℕ) → Accepted answer r → Valued r v steps → call answer r .told ≡ tellsValue v steps
-unfolding carried says leaves
-answer-value r v steps a w = ap (λ (o : Outcome). o .told) (call-done answer r a) ∙ rw (w .state, w .value, w .count)
+  surveyed-value : (n boxes v steps : ℕ) → run (r .table) boxes (going (startIn 2)) ≡ over (valued v) steps → Over (run (r .table) n (going (startIn 1)))
+      → run (r .table) n (going (startIn 1)) ≡ over (valued v) steps
+  surveyed-value n boxes v steps h o =
+      let here : run (r .table) (boxes + n) (going (startIn 1)) ≡ over (o .ending) (o .steps) =
+      ap (λ (k : ℕ). run (r .table) k (going (startIn 1))) (add-comm boxes n) ∙ over-twice (r .table) _ (o .ending) n (o .steps) boxes (o .is) in
+      let both = pace-value v steps (o .ending) (o .steps) (run-pace (r .table) (boxes + n) start-pace) (over-twice (r .table) _ (valued v) boxes steps n h) here in
+      o .is ∙ sym here ∙ both
 
 pub answers-as-high-water : AnswersAsHighWater
-unfolding high surveyed
 answers-as-high-water r r′ inputs allowed limit limit′ b v steps w ds qd =
     let p = begin-permits 2 inputs allowed limit r (b .accepted) in
     let p′ = begin-permits 1 inputs allowed limit′ r′ (b .accepted′) in
     let c = one-chart r r′ (b .made) (b .made′) (p .held) (p′ .held) (b .one-chart) in
     let l = effective limit′ in
-    let from = begin-starts 2 inputs allowed limit r (b .accepted) ∙ starts-same r r′ 2 inputs allowed (effective limit) l c (b .limits) in
-    let start = surveyed r′ inputs allowed l in
-    let ends : EndsSo (high r′ inputs allowed l) v steps = subst (λ (x : Runner). EndsSo x v steps) from (list-ends (w .0) _ v steps (w .1) (w .2)) in
-    let starts = begin-starts 1 inputs allowed limit′ r′ (b .accepted′) in
-    let last : final ds (begun 1 inputs allowed limit′ r′) ≡ run (asked ds) start = such-final ds _ qd ∙ ap (run (asked ds)) starts in (
-      (λ enough. subst (Accepted answer) (sym last) (ended-answers _ (run-ends (asked ds) start refl (effective-positive limit′) (omega arith)))),
-      (λ over.
-          let here : Accepted answer (run (asked ds) start) = subst (Accepted answer) last over in
-          ap (λ (x : Runner). call answer x .told) last ∙ answer-value _ v steps here (surveyed-value r′ inputs allowed l (asked ds) v steps ends (answers-ended _ here))),
+    let high = started 2 inputs allowed l (chartIn r′) in
+    let begins = begin-starts 2 inputs allowed limit r (b .accepted) ∙ starts-same 2 inputs allowed (effective limit) l c (b .limits) in
+    let from = from-start high refl begins in
+    let told = list-tells high refl v steps (w .0) (going (startIn r′ inputs allowed l 2)) (subst (AllContinue (w .0)) from (w .1))
+    (subst (λ (x : Runner). List·Memᴰ (tellsValue v steps) (tells (w .0) x)) from (w .2)) in
+    let start = started 1 inputs allowed l (chartIn r′) in
+    let last = final-from start refl (begin-starts 1 inputs allowed limit′ r′ (b .accepted′)) ds qd in (
+      (λ enough.
+          let o = run-ends (r′ .table) (asked ds) (startIn r′ inputs allowed l 1) (effective-positive limit′) (omega arith) in
+          subst (Accepted answer) (sym (last ∙ ap (λ (x : Progress). resumed x start) (o .is))) (over-answers start refl (o .ending) (o .steps))),
+      (λ ends.
+          let o = answered-over start refl (ran (asked ds) start) (subst (Accepted answer) last ends) in
+          let is = surveyed-value r′ inputs allowed l (asked ds) (told .0) v steps (told .1) o in
+          ap (λ (x : Runner). call answer x .told) (last ∙ ap (λ (x : Progress). resumed x start) is) ∙ over-tells start refl (valued v) steps),
     )
 
 pub demand3 : Demand3

@@ -1,13 +1,14 @@
--- The proofs of the claims: what calls do, reachable runners and the chart that two hold, unwinding, pace, and the claims themselves.
+-- The theorems: laws that several share, a run of boxes, lists of calls, what holds of every reachable runner, demand 3, and the other claims.
 pub mod Branches
-pub mod Carried
-pub mod Unwinding
+pub mod Accepting
 pub mod Decoded
+pub mod Counting
+pub mod Continuing
+pub mod Unwinding
+pub mod Pace
 pub mod Reachable
 pub mod OneChart
 pub mod Secrecy
-pub mod SuchCalls
-pub mod Pace
 pub mod Demand3
 pub mod RunLaws
 pub mod ChartLaws

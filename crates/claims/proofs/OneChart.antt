@@ -7,32 +7,33 @@ use mathlib.Core.Bool.{true}
 use native.Mathlib.Omega.{arith}
 use lib.ListN.{length, replicate, drop, length-replicate}
 use lib.Seq.{take-append-seam}
+use borrow.Author.Tests.{le-leb}
 use Rattle.format.specs.File.{checkFile}
 use Rattle.format.specs.declared.Header.{Header}
 use Rattle.format.specs.declared.Checked.the-variants as checked
 use Rattle.format.proofs.Accepted.{accepted}
 use Rattle.format.proofs.Ranges.{in-range}
 use Rattle.chart.specs.Chart.{tableOf, fileOf}
-use Rattle.chart.specs.WriteBack.{fileLength}
-use Rattle.chart.proofs.RoundTrip.{file-again}
-use Rattle.chart.proofs.Writes.{tells-file}
+use Rattle.chart.specs.WriteBack.{fileLength, withFile}
+use Rattle.chart_claims.proofs.RoundTrip.{file-again}
+use Rattle.calls.specs.Calls.{writeBack, check}
 use Rattle.runner.specs.declared.Runner.{Runner}
-use Rattle.runner.specs.State.{headerIn, isHeld}
-use Rattle.runner.specs.Calls.{writeBack, wrote, Told, Outcome, roomVerdict, check, says, leaves, after, carried, call}
+use Rattle.runner.specs.State.{chartIn, isHeld}
+use Rattle.runner.specs.Outcomes.{wrote, Told, Outcome, says, after, outcomeBy, call}
 use Rattle.claims.specs.Lists.{Reached, Accepted}
 use Rattle.claims.specs.Demand3.{HoldOneChart}
-use Rattle.claims.proofs.Carried.{call-done}
+use Rattle.claims.proofs.Accepting.{call-done}
 use Rattle.claims.proofs.Reachable.{From, sound}
 
 -- What write back does where there is room.
-pub room-accepts : (r : Runner) (buffer : List ℕ) → isHeld r ≡ true → fileLength (headerIn r) ≤ length buffer → Accepted (writeBack buffer) r
-unfolding check roomVerdict
-room-accepts r buffer h l = ap roomVerdict (sym (tells-file (headerIn r) (length buffer) h l))
+pub room-accepts : (r : Runner) (buffer : List ℕ) → isHeld r ≡ true → fileLength (r .header) ≤ length buffer → Accepted (writeBack buffer) r
+unfolding check
+room-accepts r buffer h l = rw (h, le-leb _ _ l)
 
 pub write-does : (r : Runner) (buffer : List ℕ) → Accepted (writeBack buffer) r
     → call (writeBack buffer) r
-    ≡ record { told = record { reply = wrote (fileLength (headerIn r)); buffer = fileOf (headerIn r) (r .table) ++ drop (fileLength (headerIn r)) buffer }; next = r }
-unfolding carried says leaves after
+    ≡ record { told = record { reply = wrote (fileLength (r .header)); buffer = fileOf (r .header) (r .table) ++ drop (fileLength (r .header)) buffer }; next = r }
+unfolding outcomeBy says after withFile
 write-does r buffer e = call-done (writeBack buffer) r e
 
 -- A chart out of a file: its file, and the length.
@@ -46,31 +47,30 @@ module _ {h : Header} {table : List ℕ} (f : From h table) where
 front-same : (f f′ x x′ : List ℕ) → length f ≡ length f′ → f ++ x ≡ f′ ++ x′ → f ≡ f′
 front-same f f′ x x′ l e = sym (take-append-seam f x) ∙ rw (l, e) (take-append-seam f′ x′)
 
-pub record SameChart (r r′ : Runner) : Type 0 where
-  pub header : headerIn r ≡ headerIn r′
-  pub table : r .table ≡ r′ .table
-
 accepted-once : {h h′ : Header} → checked.Accepted h ≡ checked.Accepted h′ → h ≡ h′
 accepted-once e = cc
 
 from-one : {h h′ : Header} {table table′ : List ℕ} (f : From h table) (f′ : From h′ table′) → f .file ≡ f′ .file → (h ≡ h′) × (table ≡ table′)
 from-one f f′ e = (accepted-once (sym (f .checks) ∙ ap checkFile e ∙ f′ .checks), f .loads ∙ ap tableOf e ∙ sym (f′ .loads))
 
-pub one-chart : (r r′ : Runner) → Reached r → Reached r′ → isHeld r ≡ true → isHeld r′ ≡ true → HoldOneChart r r′ → SameChart r r′
+pub one-chart : (r r′ : Runner) → Reached r → Reached r′ → isHeld r ≡ true → isHeld r′ ≡ true → HoldOneChart r r′ → chartIn r ≡ chartIn r′
 one-chart r r′ g g′ h h′ s =
-    let n = fileLength (headerIn r) in
-    let n′ = fileLength (headerIn r′) in
+    let n = fileLength (r .header) in
+    let n′ = fileLength (r′ .header) in
     let buffer : List ℕ = replicate 2560 0 in
     let long : length buffer ≡ 2560 = length-replicate {A = ℕ} 2560 0 in
     let room : 2560 ≤ length buffer = omega arith in
-    let a : Accepted (writeBack buffer) r = room-accepts r buffer h (omega (arith, in-range (headerIn r) h .fits)) in
-    let a′ : Accepted (writeBack buffer) r′ = room-accepts r′ buffer h′ (omega (arith, in-range (headerIn r′) h′ .fits)) in
+    let a : Accepted (writeBack buffer) r = room-accepts r buffer h (omega (arith, in-range (r .header) h .fits)) in
+    let a′ : Accepted (writeBack buffer) r′ = room-accepts r′ buffer h′ (omega (arith, in-range (r′ .header) h′ .fits)) in
     let told = sym (ap (λ (o : Outcome). o .told) (write-does r buffer a)) ∙ s buffer room ∙ ap (λ (o : Outcome). o .told) (write-does r′ buffer a′) in
     let size : wrote n ≡ wrote n′ = ap (λ (t : Told). t .reply) told in
     let bytes = ap (λ (t : Told). t .buffer) told in
     let f = sound g .held h in
     let f′ = sound g′ .held h′ in
     let same : n ≡ n′ = cc in
-    let files = front-same (fileOf (headerIn r) (r .table)) (fileOf (headerIn r′) (r′ .table)) _ _ (own-length f ∙ same ∙ sym (own-length f′)) bytes in
-    let both = from-one f f′ (sym (own-file f) ∙ files ∙ own-file f′) in
-    record { header = both .0; table = both .1 }
+    let lengths = own-length f ∙ same ∙ sym (own-length f′) in
+    let files = front-same (fileOf (r .header) (r .table)) (fileOf (r′ .header) (r′ .table)) _ _ lengths bytes in
+    let parts = from-one f f′ (sym (own-file f) ∙ files ∙ own-file f′) in
+    let header = parts .0 in
+    let table = parts .1 in
+    cc

@@ -6,12 +6,12 @@ use native.Mathlib.Omega.{arith}
 use lib.ListN.{length}
 use Rattle.format.specs.File.{headerOf}
 use Rattle.format.proofs.Accepted.{accepted}
-use Rattle.begin.specs.Begin.{effective}
+use Rattle.begin.specs.Begin.{limitForNone, effective}
+use Rattle.calls.specs.Calls.{Call, load}
 use Rattle.runner.specs.declared.Runner.{Runner}
-use Rattle.runner.specs.Calls.{Call, load}
 use Rattle.claims.specs.Lists.{Reached, then, Accepted, final}
 use Rattle.claims.specs.Demand3.{HoldOneChart}
-use Rattle.claims.specs.OneFile.{since, NoneSince, OneFile}
+use Rattle.claims.specs.OneFile.{afterLoad, NoOtherChart, OneFile}
 use Rattle.claims.proofs.Reachable.{accepted-file}
 use Rattle.claims.proofs.Secrecy.{noninterference}
 use Rattle.claims.proofs.ChartLaws.{loaded-is-written}
@@ -28,9 +28,9 @@ file-fits file r a = let f = accepted file (headerOf file) (accepted-file file r
 pub one-file-held : (r r′ : Runner) (file : List ℕ) (past past′ : List Call)
     → Accepted (load file) r
     → Accepted (load file) r′
-    → NoneSince file past r
-    → NoneSince file past′ r′
-    → HoldOneChart (since file past r) (since file past′ r′)
+    → NoOtherChart file past r
+    → NoOtherChart file past′ r′
+    → HoldOneChart (afterLoad file past r) (afterLoad file past′ r′)
 one-file-held r r′ file past past′ a a′ n n′ buffer room =
     let long : length file ≤ length buffer = omega (arith, file-fits file r a) in
     loaded-is-written r file buffer past a n long ∙ sym (loaded-is-written r′ file buffer past′ a′ n′ long)
@@ -38,7 +38,7 @@ one-file-held r r′ file past past′ a a′ n n′ buffer room =
 pub one-file : OneFile
 unfolding effective
 one-file r r′ file past past′ g g′ a a′ n n′ inputs inputs′ allowed alike b b′ cs =
-    noninterference _ _ inputs inputs′ allowed 0 4096
+    noninterference _ _ inputs inputs′ allowed 0 limitForNone
     (record {
       made = reached-final past (then g (load file));
       made′ = reached-final past′ (then g′ (load file));

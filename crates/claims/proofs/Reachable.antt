@@ -2,40 +2,43 @@
 -- rest. A new runner has it, a box keeps it, and so does every call. Assumes nothing.
 use Prim.Native.Nat.{ℕ, zero, suc, _+_, _%_, _≤_, _<_}
 use mathlib.Core.Path.{_≡_, refl, ap, sym, _∙_, subst}
-use mathlib.Core.List.{List, [], _∷_, map}
-use mathlib.Core.Bool.{Bool, true, false, cond, true≢false, false≢true}
+use mathlib.Core.List.{List, [], _∷_}
+use mathlib.Core.Bool.{Bool, true, false, cond, not, true≢false, false≢true}
 use native.Mathlib.Omega.{arith}
 use lib.Bits.{bitOr, or-lt}
 use lib.Dec.{leb}
 use lib.ListN.{length, getD, length-set}
 use borrow.Author.Tests.{eqb-true, leb-false}
+use Rattle.boxes.specs.Bytes.{boxOf}
 use Rattle.format.specs.File.{headerOf, inRange, checkFile}
 use Rattle.format.specs.declared.Header.{Header}
 use Rattle.format.specs.declared.Checked.{Checked}
 use Rattle.format.specs.declared.Checked.the-variants as checked
 use Rattle.format.proofs.Accepted.{accepted}
 use Rattle.format.proofs.Ranges.{in-range}
-use Rattle.chart.specs.Chart.{tableOf, boxOf}
-use Rattle.chart.specs.Claims.{BoxInRange}
-use Rattle.chart.proofs.Rules.{stays-in-range}
-use Rattle.rules.specs.Decode.{boxAt, readBy}
-use Rattle.rules.specs.Operation.{compares}
-use Rattle.rules.specs.Marks.{Mode, bare, surveillance, highWater, modeOf, union, targetMark, decisionNotices, counterMark, haltNotices}
-use Rattle.rules.specs.declared.decode.FlowBox.{FlowBox}
+use Rattle.chart.specs.Chart.{tableOf, Chart}
+use Rattle.chart_claims.specs.Claims.{BoxInRange}
+use Rattle.chart_claims.proofs.Rules.{stays-in-range}
+use Rattle.decode.specs.Decode.{boxAt, Box, meaning}
+use Rattle.marks.specs.Marks.{modeOf, marked, union, targetMark, decisionNotice, counterMark, haltNotice}
+use Rattle.marks.specs.declared.Mode.{Mode}
+use Rattle.marks.specs.declared.Mode.the-variants.{Bare, Surveillance, HighWater}
+use Rattle.machine.specs.Act.{entry, entries, act}
+use Rattle.machine.specs.Run.{Run, Ending, valued, notice, spent, Progress, going, over, moved, goesOn, settle, step, onward, run}
+use Rattle.machine.specs.declared.Act.the-variants.{Go, Value, Notice}
 use Rattle.begin.specs.Begin.{effective}
-use Rattle.begin.specs.declared.Verdict.{Verdict}
-use Rattle.begin.specs.declared.Verdict.the-variants.{Done, Refused}
-use Rattle.begin.proofs.Begins.{permitted, effective-positive, effective-fits, length-vars, length-marks, marks-class}
+use Rattle.begin.proofs.Begins.{effective-positive, effective-fits, length-vars, length-marks, marks-class}
+use Rattle.calls.specs.Calls.{Call, load, begin, advance, answer, abandon, writeBack, refuseIf, fileVerdict, check}
+use Rattle.calls.specs.declared.Verdict.{Verdict}
+use Rattle.calls.specs.declared.Verdict.the-variants.{Done, Refused}
+use Rattle.calls.proofs.Permits.{not-done, passed, permitted}
 use Rattle.runner.specs.declared.Runner.{Runner}
-use Rattle.runner.specs.State.{headerIn, isHeld, isRunning, isEnded, Ending, valued, notice, spent, endingIn, idle, newRunner, endedWith, dropped}
-use Rattle.step.specs.Act.{entry, act}
-use Rattle.step.specs.declared.Act.the-variants.{Go, Value, Notice}
-use Rattle.runner.specs.Step.{moved, goesOn, settle, boxRun, step, run}
-use Rattle.runner.specs.Calls.{Call, load, begin, advance, answer, abandon, writeBack, fileVerdict, check, started, after, carried, call}
+use Rattle.runner.specs.State.{chartIn, isHeld, isRunning, isEnded, standingOf, endingIn, runnerOf, underWay, runIn, idle, newRunner, endedWith, dropped, ran, resumed}
+use Rattle.runner.specs.Whole.{startOf}
+use Rattle.runner.specs.Outcomes.{after, outcomeBy, call}
 use Rattle.claims.specs.Lists.{Reached, fresh, then}
-use Rattle.claims.specs.Charts.{UnderWay}
+use Rattle.claims.specs.Charts.{RunInRange, UnderWay}
 use Rattle.claims.proofs.Branches.{set-each}
-use Rattle.claims.proofs.Carried.{not-done}
 use Rattle.claims.proofs.Decoded.{GoesBelow, assign-below, decide-below, halt-below, goes-below}
 
 -- A chart that came out of a file.
@@ -45,30 +48,30 @@ pub record From (h : Header) (table : List ℕ) : Type 0 where
   pub loads : table ≡ tableOf file
 
 pub record Sound (r : Runner) : Type 0 where
-  pub held : isHeld r ≡ true → From (headerIn r) (r .table)
+  pub held : isHeld r ≡ true → From (r .header) (r .table)
   pub rests : isRunning r ≡ false → isEnded r ≡ false → r ≡ dropped r
   pub runs : isRunning r ≡ true → UnderWay r
-  pub ends : isEnded r ≡ true → (isHeld r ≡ true) × (r .state ≤ 4) × (r ≡ endedWith (endingIn r) (r .count) r)
+  pub ends : isEnded r ≡ true → (isHeld r ≡ true) × (r .state ≤ 4) × (r ≡ endedWith (endingIn r) (r .took) r)
 
 -- A runner without a run, and with an ended one.
-dropped-sound : (h : Header) (table : List ℕ) → (inRange h ≡ true → From h table) → Sound (idle h table)
+dropped-sound : (c : Chart) → (inRange (c .header) ≡ true → From (c .header) (c .table)) → Sound (idle c)
 unfolding dropped
-dropped-sound h table f =
+dropped-sound c f =
     record { held = f; rests = λ e q. refl; runs = λ e. absurd (false≢true e); ends = λ e. absurd (false≢true e) }
 
-over-sound : (q : Runner) → From (headerIn q) (q .table) → isHeld q ≡ true → isEnded q ≡ true → isRunning q ≡ false → q .state ≤ 4
-    → q ≡ endedWith (endingIn q) (q .count) q
+over-sound : (q : Runner) → From (q .header) (q .table) → isHeld q ≡ true → isEnded q ≡ true → isRunning q ≡ false → q .state ≤ 4
+    → q ≡ endedWith (endingIn q) (q .took) q
     → Sound q
 over-sound q f h e n l is =
     record { held = λ z. f; rests = λ z y. absurd (true≢false (sym e ∙ y)); runs = λ z. absurd (false≢true (sym n ∙ z)); ends = λ z. (h, l, is) }
 
-ended-sound : (e : Ending) (steps : ℕ) (r : Runner) → From (headerIn r) (r .table) → isHeld r ≡ true → Sound (endedWith e steps r)
+ended-sound : (e : Ending) (steps : ℕ) (r : Runner) → From (r .header) (r .table) → isHeld r ≡ true → Sound (endedWith e steps r)
 unfolding endedWith
 ended-sound (valued v) steps r f h = over-sound _ f h refl refl (omega arith) refl
 ended-sound notice steps r f h = over-sound _ f h refl refl (omega arith) refl
 ended-sound spent steps r f h = over-sound _ f h refl refl (omega arith) refl
 
-running-sound : (r : Runner) → r .state ≡ 1 → From (headerIn r) (r .table) → UnderWay r → Sound r
+running-sound : (r : Runner) → r .state ≡ 1 → From (r .header) (r .table) → UnderWay r → Sound r
 running-sound r s f u =
     record {
       held = λ e. f;
@@ -82,122 +85,144 @@ or-class : (a b : ℕ) → a ≤ 1 → b ≤ 1 → bitOr a b ≤ 1
 or-class a b ha hb = let l = or-lt 1 a b (omega arith) (omega arith) in omega arith
 
 module _ (marks : List ℕ) (two : (v : ℕ) → getD marks v 0 ≤ 1) where
-  union-class : (vs : List ℕ) → union (map (entry marks) vs) ≤ 1
+  union-class : (vs : List ℕ) → union (entries marks vs) ≤ 1
   unfolding union
   union-class [] = omega arith
-  union-class (v ∷ vs) = or-class (entry marks v) (union (map (entry marks) vs)) (two (v % 32)) (union-class vs)
+  union-class (v ∷ vs) = or-class (entry marks v) (union (entries marks vs)) (two (v % 32)) (union-class vs)
 
-  target-class : (m : Mode) (t : ℕ) (vs : List ℕ) → targetMark m (entry marks t) (union (map (entry marks) vs)) ≤ 1
-  unfolding targetMark
-  target-class bare t vs = two (t % 32)
-  target-class surveillance t vs = union-class vs
-  target-class highWater t vs = or-class _ _ (two (t % 32)) (union-class vs)
+  target-class : (m : Mode) (t : ℕ) (vs : List ℕ) → targetMark m (entry marks t) (union (entries marks vs)) ≤ 1
+  target-class Bare t vs = two (t % 32)
+  target-class Surveillance t vs = union-class vs
+  target-class HighWater t vs = or-class _ _ (two (t % 32)) (union-class vs)
 
-  counter-class : (m : Mode) (counter i j : ℕ) → counter ≤ 1 → counterMark m counter (bitOr (entry marks i) (entry marks j)) ≤ 1
-  unfolding counterMark
-  counter-class bare counter i j h = h
-  counter-class surveillance counter i j h = h
-  counter-class highWater counter i j h = or-class _ _ h (or-class _ _ (two (i % 32)) (two (j % 32)))
+  counter-class : (m : Mode) (counter : ℕ) (vs : List ℕ) → counter ≤ 1 → counterMark m counter (union (entries marks vs)) ≤ 1
+  counter-class Bare counter vs h = h
+  counter-class Surveillance counter vs h = h
+  counter-class HighWater counter vs h = or-class _ _ h (union-class vs)
+
+-- What a run in range comes to: it is over, or still in range.
+data Ranged (h : Header) : Progress → Type 0 where
+  in-reach : {q : Run} → RunInRange h q → Ranged h (going q)
+  finished : {e : Ending} {steps : ℕ} → Ranged h (over e steps)
 
 -- One box.
-module _ (r : Runner) (s : r .state ≡ 1) (f : From (headerIn r) (r .table)) (u : UnderWay r) where
-  goes-sound : (vars marks : List ℕ) (counter next : ℕ) → length vars ≡ 32 → length marks ≡ 32 → ((v : ℕ) → getD marks v 0 ≤ 1) → counter ≤ 1
-      → next < r .boxes → Sound (goesOn r vars marks counter next)
+module _ (h : Header) (q : Run) (u : RunInRange h q) where
+  goes-ranged : (vars marks : List ℕ) (counter at : ℕ) → length vars ≡ 32 → length marks ≡ 32 → ((v : ℕ) → getD marks v 0 ≤ 1) → counter ≤ 1
+      → at < h .boxes → Ranged h (goesOn (moved q vars marks counter at))
   unfolding goesOn
-  goes-sound vars marks counter next lv lm cm cc′ b = on (leb (r .limit) (r .steps + 1)) refl
+  goes-ranged vars marks counter at lv lm two one b = on (leb (q .limit) (q .steps + 1)) refl
     where
-      on : (q : Bool) → leb (r .limit) (r .steps + 1) ≡ q → Sound (cond q (endedWith spent (r .steps + 1) r) (moved r vars marks counter next))
-      on true e = ended-sound spent _ r f (u .held)
+      on : (x : Bool) → leb (q .limit) (q .steps + 1) ≡ x → Ranged h (cond x (over spent (q .steps + 1)) (going (moved q vars marks counter at)))
+      on true e = finished
       on false e =
-          running-sound (moved r vars marks counter next) s f
-          (record { held = u .held; at = b; mode = u .mode; below = leb-false _ _ e; limit = u .limit; forgot = u .forgot; vars = lv; marks = lm; classes = cm; counter = cc′ })
+          in-reach
+          (record { at = b; mode = u .mode; below = leb-false _ _ e; limit = u .limit; vars = lv; marks = lm; classes = two; counter = one })
 
-  settle-sound : (m : Mode) (b : FlowBox) → GoesBelow (r .boxes) b → Sound (settle (act m b (r .vars) (r .marks) (r .counter)) r)
+  settle-ranged : (m : Mode) (b : Box) → GoesBelow (h .boxes) b → Ranged h (settle (act m b (q .vars) (q .marks) (q .counter)) q)
   unfolding settle act
-  settle-sound m b (assign-below {t = t} {op = op} {i = i} {j = j} l) =
-      let mark = targetMark m (entry (r .marks) t) (union (map (entry (r .marks)) (readBy op i j))) in
-      goes-sound _ _ _ _ (simp length-set (u .vars)) (simp length-set (u .marks))
-      (set-each (λ x y z. x ≤ 1) (r .marks) (r .marks) (r .marks) refl refl (u .classes) (t % 32) mark mark mark (target-class (r .marks) (u .classes) m t (readBy op i j)))
+  settle-ranged m b (assign-below {target = t} {reads = reads} l) =
+      let mark = targetMark m (entry (q .marks) t) (union (entries (q .marks) reads)) in
+      let class = target-class (q .marks) (u .classes) m t reads in
+      goes-ranged _ _ _ _ (simp length-set (u .vars)) (simp length-set (u .marks))
+      (set-each (λ x y z. x ≤ 1) (q .marks) (q .marks) (q .marks) refl refl (u .classes) (t % 32) mark mark mark class)
       (u .counter) l
-  settle-sound m b (decide-below {c = c} {i = i} {j = j} {next = next} {other = other} l k) =
-      on (decisionNotices m (bitOr (entry (r .marks) i) (entry (r .marks) j))) (compares c (entry (r .vars) i) (entry (r .vars) j))
+  settle-ranged m b (decide-below {reads = reads} {holds = holds} {next = next} {other = other} l k) =
+      on (marked (decisionNotice m (union (entries (q .marks) reads)))) (holds (entries (q .vars) reads))
     where
-      on : (n h : Bool) → Sound (settle (cond n Notice (Go (cond h next other) (counterMark m (r .counter) (bitOr (entry (r .marks) i) (entry (r .marks) j))))) r)
-      on true h = ended-sound notice _ r f (u .held)
-      on false true = goes-sound _ _ _ _ (u .vars) (u .marks) (u .classes) (counter-class (r .marks) (u .classes) m (r .counter) i j (u .counter)) l
-      on false false = goes-sound _ _ _ _ (u .vars) (u .marks) (u .classes) (counter-class (r .marks) (u .classes) m (r .counter) i j (u .counter)) k
-  settle-sound m b halt-below = on (haltNotices m (r .counter) (entry (r .marks) 31))
+      class : counterMark m (q .counter) (union (entries (q .marks) reads)) ≤ 1
+      class = counter-class (q .marks) (u .classes) m (q .counter) reads (u .counter)
+
+      on : (n y : Bool) → Ranged h (settle (cond n Notice (Go (cond y next other) (counterMark m (q .counter) (union (entries (q .marks) reads))))) q)
+      on true y = finished
+      on false true = goes-ranged _ _ _ _ (u .vars) (u .marks) (u .classes) class l
+      on false false = goes-ranged _ _ _ _ (u .vars) (u .marks) (u .classes) class k
+  settle-ranged m b halt-below = on (marked (haltNotice m (q .counter) (entry (q .marks) 31)))
     where
-      on : (n : Bool) → Sound (settle (cond n Notice (Value (entry (r .vars) 31))) r)
-      on true = ended-sound notice _ r f (u .held)
-      on false = ended-sound (valued _) _ r f (u .held)
+      on : (n : Bool) → Ranged h (settle (cond n Notice (Value (entry (q .vars) 31))) q)
+      on true = finished
+      on false = finished
 
-  box-sound : Sound (boxRun r)
-  box-sound =
-      let c = stays-in-range (f .file) (headerIn r) (f .checks) in
-      let few : r .at < 204 = omega (arith, u .at, c .0 .fits) in
-      let box : BoxInRange (r .boxes) (boxOf (r .table) (r .at)) = subst (λ (t : List ℕ). BoxInRange (r .boxes) (boxOf t (r .at))) (sym (f .loads)) (c .1 (r .at) (u .at)) in
-      settle-sound (modeOf (r .mode)) (boxAt (r .table) (r .at)) (goes-below (r .boxes) (r .table) (r .at) few box)
+module _ (h : Header) (table : List ℕ) (f : From h table) where
+  step-ranged : (q : Run) → RunInRange h q → Ranged h (step table q)
+  step-ranged q u =
+      let c = stays-in-range (f .file) h (f .checks) in
+      let few : q .at < 204 = omega (arith, u .at, c .0 .fits) in
+      let box : BoxInRange (h .boxes) (boxOf table (q .at)) =
+      subst (λ (t : List ℕ). BoxInRange (h .boxes) (boxOf t (q .at))) (sym (f .loads)) (c .1 (q .at) (u .at)) in
+      settle-ranged h q u (modeOf (q .mode)) (meaning (boxAt table (q .at))) (goes-below (h .boxes) table (q .at) few box)
 
-step-sound : (r : Runner) → Sound r → Sound (step r)
-unfolding step
-step-sound r h = on (isRunning r) refl
-  where
-    on : (b : Bool) → isRunning r ≡ b → Sound (cond b (boxRun r) r)
-    on true e = let u = h .runs e in box-sound r (eqb-true _ _ e) (h .held (u .held)) u
-    on false e = h
+  onward-ranged : {p : Progress} → Ranged h p → Ranged h (onward table p)
+  unfolding onward
+  onward-ranged (in-reach {q = q} u) = step-ranged q u
+  onward-ranged finished = finished
 
-run-sound : (m : ℕ) (r : Runner) → Sound r → Sound (run m r)
-unfolding run
-run-sound zero r h = h
-run-sound (suc m) r h = run-sound m (step r) (step-sound r h)
+  run-ranged : (m : ℕ) {p : Progress} → Ranged h p → Ranged h (run table m p)
+  unfolding run
+  run-ranged zero u = u
+  run-ranged (suc m) u = run-ranged m (onward-ranged u)
+
+-- The runner that has come to it.
+resumed-sound : (r : Runner) → r .state ≡ 1 → From (r .header) (r .table) → UnderWay r → {p : Progress} → Ranged (r .header) p → Sound (resumed p r)
+unfolding resumed
+resumed-sound r s f u (in-reach {q = q} x) =
+    running-sound (runnerOf (chartIn r) q (r .state) (r .took) (r .value)) s f (record { held = u .held; ranged = x; forgot = u .forgot })
+resumed-sound r s f u (finished {e = e} {steps = steps}) = ended-sound e steps r f (u .held)
 
 -- An accepted load: the file's header and table.
-pub accepted-file : (file : List ℕ) (r : Runner) → check (load file) r ≡ Done → checkFile file ≡ checked.Accepted (headerOf file)
+pub accepted-file : (file : List ℕ) (r : Runner) → check (load file) (standingOf r) ≡ Done → checkFile file ≡ checked.Accepted (headerOf file)
 unfolding check fileVerdict
-accepted-file file r e = by (isRunning r) e
+accepted-file file r e = on (checkFile file) refl (passed (isRunning r) 22 e .1)
   where
     on : (x : Checked) → checkFile file ≡ x → fileVerdict x ≡ Done → checkFile file ≡ checked.Accepted (headerOf file)
     on (checked.Accepted h) q v = q ∙ ap checked.Accepted (accepted file h q .header)
     on (checked.Refused x) q v = not-done v
 
-    by : (b : Bool) → cond b (Refused (record { number = 22; detail = 0 })) (fileVerdict (checkFile file)) ≡ Done → checkFile file ≡ checked.Accepted (headerOf file)
-    by true v = not-done v
-    by false v = on (checkFile file) refl v
-
-start-sound : (mode : ℕ) (inputs : List ℕ) (allowed limit : ℕ) (r : Runner) → check (begin mode inputs allowed limit) r ≡ Done → Sound r → Sound (started r mode inputs allowed (effective limit))
-unfolding check
+start-sound : (mode : ℕ) (inputs : List ℕ) (allowed limit : ℕ) (r : Runner) → check (begin mode inputs allowed limit) (standingOf r) ≡ Done → Sound r
+    → Sound (underWay (chartIn r) (startOf mode inputs allowed (effective limit) (r .header)))
 start-sound mode inputs allowed limit r e h =
-    let p = permitted (headerIn r) (isRunning r) mode (length inputs) allowed limit e in
+    let p = permitted mode inputs allowed limit (standingOf r) e in
     let f = h .held (p .held) in
-    let few = in-range (headerIn r) (p .held) .few in
+    let few = in-range (r .header) (p .held) .few in
     let many : length inputs ≤ 32 = omega (arith, p .lent) in
-    running-sound (started r mode inputs allowed (effective limit)) refl f
+    running-sound (underWay (chartIn r) (startOf mode inputs allowed (effective limit) (r .header))) refl f
     (record {
       held = p .held;
-      at = stays-in-range (f .file) (headerIn r) (f .checks) .0 .start;
-      mode = p .known;
-      below = effective-positive limit;
-      limit = effective-fits limit (p .fits);
+      ranged =
+          record {
+            at = stays-in-range (f .file) (r .header) (f .checks) .0 .start;
+            mode = p .known;
+            below = effective-positive limit;
+            limit = effective-fits limit (p .fits);
+            vars = length-vars inputs many;
+            marks = length-marks allowed (r .header .inputs) (omega arith);
+            classes = marks-class allowed (r .header .inputs);
+            counter = omega arith;
+          };
       forgot = (refl, refl);
-      vars = length-vars inputs many;
-      marks = length-marks allowed (r .inputs) (omega arith);
-      classes = marks-class allowed (r .inputs);
-      counter = omega arith;
     })
 
-carried-sound : (v : Verdict) (c : Call) (r : Runner) → check c r ≡ v → Sound r → Sound (carried v c r .next)
-unfolding carried after dropped
-carried-sound (Refused x) c r e h = h
-carried-sound Done (load file) r e h =
-    dropped-sound (headerOf file) (tableOf file) (λ q. record { file = file; checks = accepted-file file r e; loads = refl })
-carried-sound Done (begin mode inputs allowed limit) r e h = start-sound mode inputs allowed limit r e h
-carried-sound Done (advance m) r e h = run-sound m r h
-carried-sound Done answer r e h = h
-carried-sound Done abandon r e h = dropped-sound (headerIn r) (r .table) (h .held)
-carried-sound Done (writeBack buffer) r e h = h
+advance-sound : (m : ℕ) (r : Runner) → check (advance m) (standingOf r) ≡ Done → Sound r → Sound (resumed (ran m r) r)
+unfolding check
+advance-sound m r e h = on (isRunning r) refl e
+  where
+    on : (b : Bool) → isRunning r ≡ b → refuseIf (not b) 23 Done ≡ Done → Sound (resumed (ran m r) r)
+    on true q z =
+        let u = h .runs q in
+        let f = h .held (u .held) in
+        resumed-sound r (eqb-true _ _ q) f u (run-ranged (r .header) (r .table) f m (in-reach (u .ranged)))
+    on false q z = not-done z
+
+outcome-sound : (v : Verdict) (c : Call) (r : Runner) → check c (standingOf r) ≡ v → Sound r → Sound (outcomeBy v c r .next)
+unfolding outcomeBy after dropped
+outcome-sound (Refused x) c r e h = h
+outcome-sound Done (load file) r e h = dropped-sound _ (λ q. record { file = file; checks = accepted-file file r e; loads = refl })
+outcome-sound Done (begin mode inputs allowed limit) r e h = start-sound mode inputs allowed limit r e h
+outcome-sound Done (advance m) r e h = advance-sound m r e h
+outcome-sound Done answer r e h = h
+outcome-sound Done abandon r e h = dropped-sound (chartIn r) (h .held)
+outcome-sound Done (writeBack buffer) r e h = h
 
 pub sound : {r : Runner} → Reached r → Sound r
 unfolding newRunner call
-sound fresh = dropped-sound _ _ (λ q. absurd (false≢true q))
-sound (then {r = r} h c) = carried-sound (check c r) c r refl (sound h)
+sound fresh = dropped-sound _ (λ q. absurd (false≢true q))
+sound (then {r = r} h c) = outcome-sound (check c (standingOf r)) c r refl (sound h)

@@ -5,15 +5,16 @@ use mathlib.Core.List.{List, [], _∷_, List·Memᴰ}
 use mathlib.Core.Logic.{_≢_}
 use mathlib.Core.Bool.{true}
 use lib.ListN.{length, getD}
-use Rattle.chart.specs.Bounds.{ChartBounds}
+use Rattle.chart_claims.specs.Bounds.{ChartBounds}
 use Rattle.begin.specs.Begin.{effective}
+use Rattle.calls.specs.Calls.{Call, load, advance, answer, writeBack}
 use Rattle.runner.specs.declared.Runner.{Runner}
-use Rattle.runner.specs.State.{headerIn, isHeld, isRunning, isEnded}
-use Rattle.runner.specs.Calls.{Call, load, advance, answer, writeBack, ended, wrote, Told, call}
-use Rattle.claims.specs.Lists.{Reached, Accepted, begun, tells, final, AllSuch, Ends}
+use Rattle.runner.specs.State.{isHeld, isRunning, isEnded}
+use Rattle.runner.specs.Outcomes.{ended, wrote, Told, call}
+use Rattle.claims.specs.Lists.{Reached, Accepted, begun, tells, final, AllContinue, Ends}
 use Rattle.claims.specs.Demand3.{Begins, SameLimit, tellsValue, SomeAnswer}
 use Rattle.claims.specs.Runs.{AfterBegin, stepsTold}
-use Rattle.claims.specs.Charts.{NoLoads}
+use Rattle.claims.specs.Charts.{AllKeepChart}
 
 -- Demand 3's second half: after one advance by exactly the limit an answer tells the value that high-water told.
 abbrev pub AnswersAtTheLimit : Type 0
@@ -28,7 +29,7 @@ AnswersAtTheLimit =
 -- end in no steps, or in m + 1.
 pub record RunBounds (limit : ℕ) (start : Runner) : Type 0 where
   pub ends : Ends (advance limit ∷ []) start
-  pub within : (cs : List Call) → AllSuch cs start → (t : Told) → List·Memᴰ t (tells cs start) → stepsTold (t .reply) ≢ limit + 1
+  pub within : (cs : List Call) → AllContinue cs start → (t : Told) → List·Memᴰ t (tells cs start) → stepsTold (t .reply) ≢ limit + 1
   pub some : (m : ℕ) → call (advance m) start .told .reply ≢ ended 0
   pub few : (m : ℕ) → call (advance m) start .told .reply ≢ ended (m + 1)
 
@@ -40,17 +41,17 @@ abbrev pub WrittenIntoExactRoom : Type 0
 WrittenIntoExactRoom =
     (r : Runner) (file buffer : List ℕ) (cs : List Call)
     → Accepted (load file) r
-    → NoLoads cs (call (load file) r .next)
+    → AllKeepChart cs (call (load file) r .next)
     → length buffer ≡ length file
     → call (writeBack buffer) (final cs (call (load file) r .next)) .told ≡ record { reply = wrote (length file); buffer = file }
 
 -- The chart that a reachable runner holds.
 abbrev pub HeldWithinBounds : Type 0
-HeldWithinBounds = (r : Runner) → Reached r → isHeld r ≡ true → ChartBounds (headerIn r) (r .table)
+HeldWithinBounds = (r : Runner) → Reached r → isHeld r ≡ true → ChartBounds (r .header) (r .table)
 
 -- A run under way: none of its numbers is the first one out of range.
 pub record UnderWayBounds (r : Runner) : Type 0 where
-  pub at : r .at ≢ r .boxes
+  pub at : r .at ≢ r .header .boxes
   pub mode : r .mode ≢ 3
   pub below : r .steps ≢ r .limit
   pub limit : r .limit ≢ 65536

@@ -5,10 +5,11 @@ use mathlib.Core.List.{List, [], List·Memᴰ}
 use mathlib.Core.Bool.{true}
 use lib.ListN.{length, getD}
 use Rattle.begin.specs.Begin.{effective, allows}
+use Rattle.calls.specs.Calls.{Call, begin, answer, writeBack}
+use Rattle.machine.specs.Run.{valued}
 use Rattle.runner.specs.declared.Runner.{Runner}
-use Rattle.runner.specs.State.{valued}
-use Rattle.runner.specs.Calls.{Call, begin, answer, writeBack, ending, Told, call}
-use Rattle.claims.specs.Lists.{Reached, Accepted, begun, tells, final, AllSuch, asked, Ends}
+use Rattle.runner.specs.Outcomes.{ending, Told, call}
+use Rattle.claims.specs.Lists.{Reached, Accepted, begun, tells, final, AllContinue, asked, Ends}
 
 -- "They hold one chart: write back, with room enough, would give the same file from each." A file has at most 2,560 bytes.
 abbrev pub HoldOneChart : Runner → Runner → Type 0
@@ -55,7 +56,7 @@ tellsValue v steps = record { reply = ending (valued v) steps; buffer = [] }
 
 -- "in some list of advance, answer, write back and refused calls after a .. begin an answer tells a value".
 abbrev pub SomeAnswer : Runner → (v steps : ℕ) → Type 0
-SomeAnswer start v steps = (cs : List Call) × AllSuch cs start × List·Memᴰ (tellsValue v steps) (tells cs start)
+SomeAnswer start v steps = (cs : List Call) × AllContinue cs start × List·Memᴰ (tellsValue v steps) (tells cs start)
 
 -- Surveillance answers wherever a run in a mode does, with limits that are related so: "Then after a surveillance begin on that chart with the same inputs, allowed set and
 -- limit, every list of such calls whose advances add up to the limit or more ends the run, and after each list that ends it an answer tells that
@@ -67,7 +68,7 @@ AnswersAs mode Limits =
     → (v steps : ℕ)
     → SomeAnswer (begun mode inputs allowed limit r) v steps
     → (ds : List Call)
-    → AllSuch ds (begun 1 inputs allowed limit′ r′)
+    → AllContinue ds (begun 1 inputs allowed limit′ r′)
     → (effective limit′ ≤ asked ds → Ends ds (begun 1 inputs allowed limit′ r′))
     × (Ends ds (begun 1 inputs allowed limit′ r′) → call answer (final ds (begun 1 inputs allowed limit′ r′)) .told ≡ tellsValue v steps)
 

@@ -2,10 +2,11 @@
 use Prim.Native.Nat.{ℕ, _+_}
 use mathlib.Core.Path.{_≡_}
 use mathlib.Core.List.{List, [], _∷_}
-use Rattle.begin.specs.declared.Verdict.the-variants.{Done}
+use Rattle.calls.specs.Calls.{Call, begin, answer, check}
+use Rattle.calls.specs.declared.Verdict.the-variants.{Done}
 use Rattle.runner.specs.declared.Runner.{Runner}
-use Rattle.runner.specs.State.{newRunner}
-use Rattle.runner.specs.Calls.{Call, load, begin, advance, answer, abandon, writeBack, Told, check, call}
+use Rattle.runner.specs.State.{standingOf, newRunner}
+use Rattle.runner.specs.Outcomes.{Told, Effect, runs, keeps, begins, drops, replaces, effect, call}
 
 -- "Callers get a runner only as a new one or from a call".
 pub data Reached : Runner → Type 0 where
@@ -14,7 +15,7 @@ pub data Reached : Runner → Type 0 where
 
 -- "Accepted means not refused."
 abbrev pub Accepted : Call → Runner → Type 0
-Accepted c r = check c r ≡ Done
+Accepted c r = check c (standingOf r) ≡ Done
 
 -- The runner that a begin hands back.
 abbrev pub begun : (mode : ℕ) (inputs : List ℕ) (allowed limit : ℕ) → Runner → Runner
@@ -29,32 +30,37 @@ unfoldable pub final : List Call → Runner → Runner
 final [] r = r
 final (c ∷ cs) r = final cs (call c r .next)
 
--- "the lists hold only advance, answer, write back and refused calls": such a call, refused at the runner that it gets where it is another,
--- and a list of such calls.
-abbrev pub Such : Call → Runner → Type 0
-Such (load file) r = Accepted (load file) r → ⊥
-Such (begin mode inputs allowed limit) r = Accepted (begin mode inputs allowed limit) r → ⊥
-Such (advance m) r = Unit {0}
-Such answer r = Unit {0}
-Such abandon r = Accepted abandon r → ⊥
-Such (writeBack buffer) r = Unit {0}
+-- What holds of every call of a list, at the runner that it gets.
+abbrev pub Along : (Call → Runner → Type 0) → List Call → Runner → Type 0
+Along P [] r = Unit {0}
+Along P (c ∷ cs) r = P c r × Along P cs (call c r .next)
 
-abbrev pub AllSuch : List Call → Runner → Type 0
-AllSuch [] r = Unit {0}
-AllSuch (c ∷ cs) r = Such c r × AllSuch cs (call c r .next)
+-- What is asked of a call so that it does no more to a run than run its boxes: nothing where it runs boxes or keeps all as it is, and else something.
+abbrev pub OnlyRuns : Effect → Type 0 → Type 0
+OnlyRuns (runs m) Else = Unit {0}
+OnlyRuns keeps Else = Unit {0}
+OnlyRuns (begins start) Else = Else
+OnlyRuns drops Else = Else
+OnlyRuns (replaces by) Else = Else
 
--- The amounts that the advances of a list ask for, and their sum: "the true sum of the amounts asked".
-unfoldable pub amount : Call → ℕ
-amount (load file) = 0
-amount (begin mode inputs allowed limit) = 0
-amount (advance m) = m
-amount answer = 0
-amount abandon = 0
-amount (writeBack buffer) = 0
+-- "the lists hold only advance, answer, write back and refused calls": advance runs boxes, answer and write back keep all, and another call is refused.
+abbrev pub Continues : Call → Runner → Type 0
+Continues c r = OnlyRuns (effect c) (Accepted c r → ⊥)
+
+abbrev pub AllContinue : List Call → Runner → Type 0
+AllContinue cs r = Along Continues cs r
+
+-- The boxes that a call asks for, and a list of them: "the true sum of the amounts asked".
+abbrev pub amountOf : Effect → ℕ
+amountOf (runs m) = m
+amountOf keeps = 0
+amountOf (begins start) = 0
+amountOf drops = 0
+amountOf (replaces by) = 0
 
 unfoldable pub asked : List Call → ℕ
 asked [] = 0
-asked (c ∷ cs) = amount c + asked cs
+asked (c ∷ cs) = amountOf (effect c) + asked cs
 
 -- A list ends the run: after it there is an ended run to answer.
 abbrev pub Ends : List Call → Runner → Type 0

@@ -1,17 +1,20 @@
 -- Claims about runs and refusals.
 use Prim.Native.Nat.{ℕ, _+_, _-_, _≤_}
 use mathlib.Core.Path.{_≡_}
-use mathlib.Core.List.{List, List·Memᴰ}
+use mathlib.Core.List.{List, [], List·Memᴰ}
 use mathlib.Core.Bool.{true, false}
-use Rattle.rules.specs.Marks.{Mode}
-use Rattle.step.specs.Act.{act}
-use Rattle.rules.specs.declared.decode.FlowBox.the-variants.{Assign}
-use Rattle.step.specs.declared.Act.the-variants.{Store}
+use Rattle.decode.specs.Decode.{meaning}
+use Rattle.decode.specs.declared.FlowBox.the-variants.{Assign}
+use Rattle.marks.specs.declared.Mode.{Mode}
+use Rattle.machine.specs.Act.{act}
+use Rattle.machine.specs.declared.Act.the-variants.{Store}
 use Rattle.begin.specs.Begin.{effective}
+use Rattle.calls.specs.Calls.{Call, begin, advance, answer}
 use Rattle.runner.specs.declared.Runner.{Runner}
 use Rattle.runner.specs.State.{isRunning, isEnded, endingIn, endedWith, dropped}
-use Rattle.runner.specs.Calls.{Call, begin, advance, Reply, done, chart, running, ended, ending, wrote, refused, Told, lent, call}
-use Rattle.claims.specs.Lists.{Reached, Accepted, begun, tells, AllSuch, asked, Ends}
+use Rattle.runner.specs.Whole.{whole}
+use Rattle.runner.specs.Outcomes.{Reply, done, chart, running, ended, ending, wrote, refused, Told, lent, call}
+use Rattle.claims.specs.Lists.{Reached, Accepted, begun, tells, final, AllContinue, asked, Ends}
 
 -- Demand 1: "A refusal changes neither the runner nor one byte of a lent buffer."
 abbrev pub RefusalChangesNothing : Type 0
@@ -37,7 +40,7 @@ AdvancesJoin = AdvancesJoinWhere NotEndedAfter
 abbrev pub NoOperationStops : Type 0
 NoOperationStops =
     (mode : Mode) (target op left right next constant : ℕ) (vars marks : List ℕ) (counter : ℕ)
-    → (value : ℕ) × (mark : ℕ) × (act mode (Assign target op left right next constant) vars marks counter ≡ Store target value mark next)
+    → (value : ℕ) × (mark : ℕ) × (act mode (meaning (Assign target op left right next constant)) vars marks counter ≡ Store target value mark next)
 
 -- What holds of every run at its start: after each accepted begin, of the number that its limit means and the runner handed back.
 abbrev pub AfterBegin : (ℕ → Runner → Type 0) → Type 0
@@ -61,7 +64,19 @@ CountsBoxes =
 
 -- "Advances that add up to the limit always end a run", in every mode.
 abbrev pub LimitEnds : Type 0
-LimitEnds = AfterBegin (λ limit start. (cs : List Call) → AllSuch cs start → limit ≤ asked cs → Ends cs start)
+LimitEnds = AfterBegin (λ limit start. (cs : List Call) → AllContinue cs start → limit ≤ asked cs → Ends cs start)
+
+-- "Ending, value and step count are those of its rules": after an accepted begin and calls that end the run, as all do whose advances reach the limit
+-- (`LimitEnds`), an answer tells the ending and the steps of the whole run.
+abbrev pub TellsWholeRun : Type 0
+TellsWholeRun =
+    (r : Runner) (mode : ℕ) (inputs : List ℕ) (allowed limit : ℕ)
+    → Accepted (begin mode inputs allowed limit) r
+    → (cs : List Call)
+    → AllContinue cs (begun mode inputs allowed limit r)
+    → Ends cs (begun mode inputs allowed limit r)
+    → let all = whole (r .header) (r .table) mode inputs allowed (effective limit) in
+    call answer (final cs (begun mode inputs allowed limit r)) .told ≡ record { reply = ending (all .ending) (all .steps); buffer = [] }
 
 -- The steps that a reply tells.
 abbrev pub stepsTold : Reply → ℕ
@@ -76,7 +91,7 @@ stepsTold (refused number detail) = 0
 -- The steps told never pass the limit.
 abbrev pub WithinLimit : Type 0
 WithinLimit =
-    AfterBegin (λ limit start. (cs : List Call) → AllSuch cs start → (t : Told) → List·Memᴰ t (tells cs start) → stepsTold (t .reply) ≤ limit)
+    AfterBegin (λ limit start. (cs : List Call) → AllContinue cs start → (t : Told) → List·Memᴰ t (tells cs start) → stepsTold (t .reply) ≤ limit)
 
 -- "When a run ends or is dropped, the variables, their marks and the counter mark become 0": a runner with no run keeps the chart and nothing
 -- else, and one with an ended run keeps the chart and the ending.
@@ -84,4 +99,4 @@ abbrev pub Cleared : Type 0
 Cleared =
     (r : Runner)
     → Reached r
-    → (isRunning r ≡ false → isEnded r ≡ false → r ≡ dropped r) × (isEnded r ≡ true → r ≡ endedWith (endingIn r) (r .count) r)
+    → (isRunning r ≡ false → isEnded r ≡ false → r ≡ dropped r) × (isEnded r ≡ true → r ≡ endedWith (endingIn r) (r .took) r)

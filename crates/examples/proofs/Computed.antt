@@ -5,8 +5,8 @@ use mathlib.Core.List.{List, [], _∷_, map}
 use native.Mathlib.Omega.{arith}
 use lib.ListN.{set}
 use lib.Count.{onesIn, ones, ones-cat}
-use Rattle.runner.specs.State.{valued}
-use Rattle.runner.specs.Calls.{done, chart, ended, ending}
+use Rattle.machine.specs.Run.{valued}
+use Rattle.runner.specs.Outcomes.{done, chart, ended, ending}
 use Rattle.examples.specs.Files.{fileCases, FileExamples}
 use Rattle.examples.specs.Runs.{Given, replies, number, gives, expected, markedCases, MarkedCases}
 use Rattle.examples.proofs.Open.{files-open, runs-open}

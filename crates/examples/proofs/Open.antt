@@ -5,15 +5,16 @@ use Rattle.format.specs.Search.{firstFrom}
 use Rattle.format.specs.Block.{weighted, checksum, isSealed, seal}
 use Rattle.format.specs.File.{headerRule, placeRule, checkFile}
 use Rattle.chart.specs.Chart.{joined, tableOf, headerBody, bodyOf, fileOf}
-use Rattle.chart.specs.WriteBack as writing
-use Rattle.rules.specs.Decode.{decode, boxAt, readBy}
-use Rattle.rules.specs.Operation.{valueOfLeft, quotient, remainder, valueOfBoth, valueOf, compares}
-use Rattle.rules.specs.Marks.{modeOf, union, targetMark, decisionNotices, counterMark, haltNotices}
-use Rattle.begin.specs.Begin.{beginVerdict, effective, firstVars, withheldMark, withheldMarks, firstMarks}
-use Rattle.runner.specs.State.{newRunner, endedWith, dropped}
-use Rattle.step.specs.Act.{act}
-use Rattle.runner.specs.Step.{goesOn, settle, step, run}
-use Rattle.runner.specs.Calls.{fileVerdict, roomVerdict, check, says, leaves, after, carried, call}
+use Rattle.chart.specs.WriteBack.{withFile}
+use Rattle.operations.specs.Operation.{readBy, valueOfLeft, quotient, remainder, valueOfBoth, valueOf, compares}
+use Rattle.marks.specs.Marks.{modeOf, union}
+use Rattle.decode.specs.Decode.{decode, boxAt, meaning}
+use Rattle.machine.specs.Act.{act}
+use Rattle.machine.specs.Run.{goesOn, settle, onward, run}
+use Rattle.begin.specs.Begin.{effective, firstVars, withheldMark, withheldMarks, firstMarks}
+use Rattle.calls.specs.Calls.{fileVerdict, check}
+use Rattle.runner.specs.State.{newRunner, endedWith, dropped, resumed}
+use Rattle.runner.specs.Outcomes.{after, progressReply, says, outcomeBy, call}
 use Rattle.claims.specs.Lists.{tells, final}
 use Rattle.examples.specs.Charts.{chartA, chartB, chartC, chartD, headE, boxesE, chartE}
 
@@ -26,25 +27,25 @@ unfolding rules-open chartA chartB chartC chartD headE boxesE chartE
 files-open = tt
 
 unfoldable pub tables-open : Unit {0}
-unfolding joined tableOf headerBody bodyOf seal fileOf writing.writeBack
+unfolding joined tableOf headerBody bodyOf seal fileOf withFile
 tables-open = tt
 
 unfoldable pub values-open : Unit {0}
-unfolding decode boxAt readBy valueOfLeft quotient remainder valueOfBoth valueOf compares
+unfolding decode boxAt meaning readBy valueOfLeft quotient remainder valueOfBoth valueOf compares
 values-open = tt
 
 unfoldable pub marks-open : Unit {0}
-unfolding modeOf union targetMark decisionNotices counterMark haltNotices
+unfolding modeOf union
 marks-open = tt
 
 unfoldable pub boxes-open : Unit {0}
-unfolding values-open marks-open act goesOn settle step run
+unfolding values-open marks-open act goesOn settle onward run
 boxes-open = tt
 
 unfoldable pub begins-open : Unit {0}
-unfolding beginVerdict effective firstVars withheldMark withheldMarks firstMarks
+unfolding effective firstVars withheldMark withheldMarks firstMarks
 begins-open = tt
 
 unfoldable pub runs-open : Unit {0}
-unfolding files-open tables-open boxes-open begins-open newRunner endedWith dropped fileVerdict roomVerdict check says leaves after carried call tells final
+unfolding files-open tables-open boxes-open begins-open newRunner endedWith dropped resumed fileVerdict check after progressReply says outcomeBy call tells final
 runs-open = tt

@@ -5,13 +5,16 @@ use mathlib.Core.Path.{_≡_, refl, ap}
 use mathlib.Core.List.{List, [], _∷_, _++_}
 use native.Mathlib.Omega.{arith}
 use lib.ListN.{replicate}
+use Rattle.machine.specs.Run.{valued, notice, spent}
+use Rattle.begin.specs.Begin.{limitForNone}
+use Rattle.calls.specs.Calls.{load, begin, advance}
+use Rattle.calls.proofs.Permits.{not-done}
 use Rattle.runner.specs.declared.Runner.{Runner}
-use Rattle.runner.specs.State.{valued, notice, spent, newRunner}
-use Rattle.runner.specs.Calls.{load, begin, advance, chart, running, ended, ending, refused, Reply, Told, Outcome}
+use Rattle.runner.specs.State.{newRunner}
+use Rattle.runner.specs.Outcomes.{chart, running, ended, ending, refused, Reply, Told, Outcome}
 use Rattle.claims.specs.Lists.{fresh, then, begun}
 use Rattle.claims.specs.Demand3.{SameLimit}
 use Rattle.claims.proofs.Branches.{clash}
-use Rattle.claims.proofs.Carried.{not-done}
 use Rattle.examples.specs.Charts.{block, front, halt, chartB, chartC, chartD, chartE}
 use Rattle.examples.specs.Refuted.{HighWaterIsNotSecret, AnotherLimitIsTold, BareAnswersMore, SmallerLimitAnswersLess}
 use Rattle.examples.specs.Refuted.{OneMore, OneLess, AdvancesPartAtTheEnd, NoLoadDuringARun, AnotherLoadIsTold}
@@ -24,14 +27,15 @@ first : List Told → Reply
 first [] = refused 0 0
 first (t ∷ ts) = t .reply
 
+different-counts : ended 3 ≡ ended 4 → ⊥
+different-counts e = let z : _≡_ {A = ℕ} 3 4 = cc in omega arith
+
 pub high-water-is-not-secret : HighWaterIsNotSecret
 unfolding runs-open first
 high-water-is-not-secret claim =
     let r = justLoaded chartB in
     let told = claim r r (0 ∷ []) (4 ∷ []) 0 0 0 (on-one-file chartB [] [] 2 2 SameLimit (0 ∷ []) (4 ∷ []) 0 0 0 refl tt tt refl refl refl) in
-    let e : ended 3 ≡ ended 4 = ap first (told (first-withheld 0 refl 0 4 []) (advance 4096 ∷ [])) in
-    let z : _≡_ {A = ℕ} 3 4 = cc in
-    omega arith
+    different-counts (ap first (told (first-withheld 0 refl 0 4 []) (advance limitForNone ∷ [])))
 
 pub another-limit-is-told : AnotherLimitIsTold
 unfolding runs-open first

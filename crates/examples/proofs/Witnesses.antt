@@ -4,13 +4,14 @@ use mathlib.Core.Path.{_≡_, refl, sym, _∙_}
 use mathlib.Core.List.{List, [], _∷_, List·Memᴰ·head, List·Memᴰ·tail}
 use mathlib.Core.Bool.{false, false≢true}
 use Rattle.begin.specs.Begin.{allows}
+use Rattle.calls.specs.Calls.{Call, load, begin, advance, answer}
+use Rattle.calls.proofs.Permits.{not-done}
 use Rattle.runner.specs.declared.Runner.{Runner}
 use Rattle.runner.specs.State.{newRunner}
-use Rattle.runner.specs.Calls.{Call, load, begin, advance, answer, call}
+use Rattle.runner.specs.Outcomes.{call}
 use Rattle.claims.specs.Lists.{fresh, then, Accepted, begun, tells}
 use Rattle.claims.specs.Demand3.{AllowedAlike, Begins, SameLimit, tellsValue, SomeAnswer}
-use Rattle.claims.specs.OneFile.{since, NoneSince}
-use Rattle.claims.proofs.Carried.{not-done}
+use Rattle.claims.specs.OneFile.{afterLoad, NoOtherChart}
 use Rattle.claims.proofs.OneFile.{reached-final, one-file-held}
 use Rattle.examples.specs.Charts.{chartA, chartE}
 use Rattle.examples.specs.Witnesses.{justLoaded, runBare, SecrecyIsMet, AnsweringIsMet}
@@ -19,12 +20,12 @@ use Rattle.examples.proofs.Open.{runs-open}
 -- Two begins on runners that have loaded one file.
 pub on-one-file : (file : List ℕ) (past past′ : List Call) (mode mode′ : ℕ) (Limits : ℕ → ℕ → Type 0) (inputs inputs′ : List ℕ) (allowed limit limit′ : ℕ)
     → Accepted (load file) newRunner
-    → NoneSince file past newRunner
-    → NoneSince file past′ newRunner
+    → NoOtherChart file past newRunner
+    → NoOtherChart file past′ newRunner
     → Limits limit limit′
-    → Accepted (begin mode inputs allowed limit) (since file past newRunner)
-    → Accepted (begin mode′ inputs′ allowed limit′) (since file past′ newRunner)
-    → Begins mode mode′ Limits (since file past newRunner) (since file past′ newRunner) inputs inputs′ allowed limit limit′
+    → Accepted (begin mode inputs allowed limit) (afterLoad file past newRunner)
+    → Accepted (begin mode′ inputs′ allowed limit′) (afterLoad file past′ newRunner)
+    → Begins mode mode′ Limits (afterLoad file past newRunner) (afterLoad file past′ newRunner) inputs inputs′ allowed limit limit′
 on-one-file file past past′ mode mode′ Limits inputs inputs′ allowed limit limit′ loads n n′ l a a′ =
     record {
       made = reached-final past (then fresh (load file));

@@ -6,7 +6,7 @@ use Rattle.begin.specs.Begin.{effective}
 use Rattle.runner.specs.State.{isRunning}
 use Rattle.claims.specs.Demand3.{SameLimit, Secrecy, AnswersAs}
 use Rattle.claims.specs.Runs.{AdvancesJoinWhere}
-use Rattle.claims.specs.Charts.{NoLoads, WrittenLoadsWhere}
+use Rattle.claims.specs.Charts.{AllKeepChart, WrittenLoadsWhere}
 use Rattle.claims.specs.OneFile.{OneFileWhere}
 
 -- "High-water step counts follow withheld inputs, as 000 shows": in chart B, 3 steps for input 0 and 4 for input 4.
@@ -42,4 +42,4 @@ NoLoadDuringARun = WrittenLoadsWhere (λ r r′. isRunning r ≡ false) → ⊥
 
 -- Another load between: that the runner which has yet to load the file would refuse it is not enough.
 abbrev pub AnotherLoadIsTold : Type 0
-AnotherLoadIsTold = OneFileWhere (λ file past r. NoLoads past r) → ⊥
+AnotherLoadIsTold = OneFileWhere (λ file past r. AllKeepChart past r) → ⊥

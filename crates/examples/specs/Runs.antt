@@ -5,11 +5,12 @@ use mathlib.Core.List.{List, [], _∷_, map}
 use lib.ListN.{length}
 use Rattle.format.specs.Block.{checksum}
 use Rattle.format.specs.File.{headerOf}
-use Rattle.rules.specs.Decode.{readBy}
-use Rattle.rules.specs.Operation.{valueOf}
+use Rattle.operations.specs.Operation.{readBy, valueOf}
+use Rattle.machine.specs.Run.{Ending, valued, notice, spent}
 use Rattle.begin.specs.Begin.{effective}
-use Rattle.runner.specs.State.{Ending, valued, notice, spent, newRunner}
-use Rattle.runner.specs.Calls.{load, begin, advance, answer, Reply, done, chart, ended, ending, Told}
+use Rattle.calls.specs.Calls.{load, begin, advance, answer}
+use Rattle.runner.specs.State.{newRunner}
+use Rattle.runner.specs.Outcomes.{Reply, done, chart, ended, ending, Told}
 use Rattle.claims.specs.Lists.{tells}
 use Rattle.examples.specs.Charts.{chartA, chartB, chartD, headE, boxesE, chartE}
 

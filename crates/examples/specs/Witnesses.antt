@@ -2,23 +2,25 @@
 use Prim.Native.Nat.{ℕ}
 use mathlib.Core.Path.{_≡_}
 use mathlib.Core.List.{List, [], _∷_, map}
+use Rattle.machine.specs.Run.{valued}
+use Rattle.calls.specs.Calls.{Call, load, begin, advance, answer, abandon, writeBack}
 use Rattle.runner.specs.declared.Runner.{Runner}
-use Rattle.runner.specs.State.{valued, newRunner}
-use Rattle.runner.specs.Calls.{Call, load, begin, advance, answer, abandon, writeBack, Reply, running, ended, ending, refused}
-use Rattle.claims.specs.Lists.{begun, tells, AllSuch}
+use Rattle.runner.specs.State.{newRunner}
+use Rattle.runner.specs.Outcomes.{Reply, running, ended, ending, refused}
+use Rattle.claims.specs.Lists.{begun, tells, AllContinue}
 use Rattle.claims.specs.Demand3.{AllowedAlike, Begins, SameLimit, SomeAnswer}
-use Rattle.claims.specs.OneFile.{since}
+use Rattle.claims.specs.OneFile.{afterLoad}
 use Rattle.examples.specs.Charts.{chartA, chartE}
 
 -- "their pasts may differ": a runner that has only loaded a file, and one that has run it bare since, to the ending.
 abbrev pub justLoaded : List ℕ → Runner
-justLoaded file = since file [] newRunner
+justLoaded file = afterLoad file [] newRunner
 
 abbrev pub runBare : List ℕ → List Call
 runBare inputs = begin 0 inputs 0 0 ∷ advance 9 ∷ []
 
 abbrev pub loadedAndRun : List ℕ → List ℕ → Runner
-loadedAndRun file inputs = since file (runBare inputs) newRunner
+loadedAndRun file inputs = afterLoad file (runBare inputs) newRunner
 
 -- The replies of a list of calls; no byte is lent to be written.
 abbrev pub Replies : List Call → Runner → List Reply → Type 0
@@ -40,6 +42,6 @@ abbrev pub AnsweringIsMet : Type 0
 AnsweringIsMet =
     Begins 2 1 SameLimit (justLoaded chartE) (loadedAndRun chartE (3 ∷ [])) (7 ∷ []) (7 ∷ []) 0 2 2
     × SomeAnswer (begun 2 (7 ∷ []) 0 2 (justLoaded chartE)) 5 2
-    × AllSuch everyKind (begun 1 (7 ∷ []) 0 2 (loadedAndRun chartE (3 ∷ [])))
+    × AllContinue everyKind (begun 1 (7 ∷ []) 0 2 (loadedAndRun chartE (3 ∷ [])))
     × Replies everyKind (begun 1 (7 ∷ []) 0 2 (loadedAndRun chartE (3 ∷ [])))
     (running 1 ∷ refused 22 0 ∷ refused 22 0 ∷ refused 12 0 ∷ refused 24 0 ∷ ended 2 ∷ refused 23 0 ∷ ending (valued 5) 2 ∷ [])

@@ -1,6 +1,6 @@
 -- Laws of the file's parts: the length that check 1 asks, and the places within it. Assumes nothing.
 use Prim.Native.Nat.{ℕ, _+_, _*_, _-_, _/_, _≤_}
-use mathlib.Core.Path.{_≡_, ap}
+use mathlib.Core.Path.{_≡_, ap, _∙_}
 use mathlib.Core.List.{List}
 use mathlib.Core.Bool.{true}
 use mathlib.Core.Logic.{⊎-elim}
@@ -10,12 +10,16 @@ use lib.Dec.{eqb}
 use lib.ListN.{take, drop}
 use borrow.Author.Tests.{eqb-true}
 use Rattle.boxes.specs.Bytes.{part}
-use Rattle.format.specs.File.{lengthRule}
+use Rattle.format.specs.File.{placeStart, placeOf, lengthRule}
 use Rattle.boxes.proofs.Bools.{or-cases}
 
 -- A part whose end is written as its start and its size.
 pub part-to : (f : List ℕ) (a size : ℕ) → take (a + size - a) (drop a f) ≡ part f a size
 part-to f a size = ap (λ (m : ℕ). take m (drop a f)) (add-sub-cancel-left a size)
+
+-- Ten bytes from where place p starts.
+pub place-to : (f : List ℕ) (a p : ℕ) → a ≡ placeStart p → take (a + 10 - a) (drop a f) ≡ placeOf f p
+place-to f a p e = part-to f a 10 ∙ ap (λ (x : ℕ). part f x 10) e
 
 -- A length that check 1 passes is that of 2 to 5 whole blocks.
 pub record Blocks (n : ℕ) : Type 0 where

@@ -48,6 +48,14 @@ pub fn blocks_for(boxes: u8) -> usize
     1 + (widen::to_usize(boxes) + 50) / 51
 }
 
+// Where a place starts in a file.
+pub fn place_start(p: u32) -> usize
+    ensures { λ r. ⌜ r ≡ placeStart p ⌝ }
+{
+    let p = p as usize;
+    512 * (1 + p / 51) + 10 * (p % 51)
+}
+
 fn letters_hold(file: &[u8]) -> bool
     requires { ⌜ 512 ≤ length (now file) ⌝ }
     ensures { λ r. ⌜ r ≡ lettersRule (now (file .entry)) ⌝ }
@@ -105,7 +113,7 @@ fn place_holds(file: &[u8], k: u8, n: u8, p: usize) -> bool
     requires { ⌜ (p < 256) × (placeStart p + 10 ≤ length (now file)) ⌝ }
     ensures { λ r. ⌜ r ≡ placeRule (now (file .entry)) k n p ⌝ }
 {
-    let start = 512 * (1 + p / 51) + 10 * (p % 51);
+    let start = place_start(p as u32);
     let end = start + 10;
     let place = &file[start..end];
     if p < widen::to_usize(n) {

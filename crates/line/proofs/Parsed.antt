@@ -184,7 +184,9 @@ taken-is (b ∷ xs) ns v d l m z =
 -- A line of at most 255 bytes.
 pub parsed : (line : List ℕ) → length line ≤ 255 → taken [] 0 0 line ≡ parse line
 unfolding parse isLine isNumber allNumbers
-parsed line l = taken-is line [] 0 0 (omega arith) (omega arith) (λ r. refl) ∙ rw (le-leb (length line) 255 l, zero-add (suc later)) (by (isNumber (firstPart line)) (allNumbers (laterParts line)) (leb 3 (suc later)) (leb (suc later) 19))
+parsed line l =
+    taken-is line [] 0 0 (omega arith) (omega arith) (λ r. refl)
+    ∙ rw (le-leb (length line) 255 l, zero-add (suc later)) (by (isNumber (firstPart line)) (allNumbers (laterParts line)) (leb 3 (suc later)) (leb (suc later) 19))
   where
     later : ℕ
     later = length (laterParts line)

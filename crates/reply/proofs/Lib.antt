@@ -1,3 +1,2 @@
 -- Laws that the proofs of what is printed cite.
 pub mod Responses
-pub mod Lines

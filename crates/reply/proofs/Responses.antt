@@ -8,19 +8,20 @@ use borrow.Author.Tests.{eq-eqb, ne-eqb}
 use Rattle.io.specs.Counts.{Counts}
 use Rattle.texts.proofs.Fronts.{printed-counts}
 use Rattle.format.specs.declared.Refusal.{Refusal}
-use Rattle.begin.specs.declared.Verdict.{Verdict}
-use Rattle.begin.specs.declared.Verdict.the-variants as verdict
+use Rattle.calls.specs.Calls.{advance, answer}
+use Rattle.calls.specs.declared.Verdict.{Verdict}
+use Rattle.calls.specs.declared.Verdict.the-variants as verdict
 use Rattle.line.specs.Parsing.{parse}
 use Rattle.texts.specs.Printing.{chartText, refusedText, printed, printedLength}
 use Rattle.line.specs.declared.parsing.Numbers.{Numbers}
-use Rattle.runner.specs.Calls.{Outcome, advance, answer, call}
-use Rattle.runner.specs.Replies.{loadReply, verdictReply, advanceReply, answerReply, outcome}
+use Rattle.runner.specs.Outcomes.{Outcome, outcome, call}
+use Rattle.runner.specs.Replies.{loadReply, verdictReply, advanceReply, answerReply}
 use Rattle.runner.specs.declared.Runner.{Runner}
 use Rattle.runner.specs.declared.LoadTold.{LoadTold}
 use Rattle.runner.specs.declared.LoadTold.the-variants as load
 use Rattle.runner.specs.declared.AdvanceTold.{AdvanceTold}
 use Rattle.runner.specs.declared.AnswerTold.{AnswerTold}
-use Rattle.reply.specs.Reply.{replyText, accepted, asked, ran, answered, respond}
+use Rattle.reply.specs.Reply.{replyText, accepted, beginOf, runOut, answered, respond}
 
 -- So many bytes were printed on a buffer, which is afterwards as a text leaves it.
 abbrev pub Prints : List ℕ → ℕ → (out after : List ℕ) → Type 0
@@ -37,16 +38,16 @@ module _ (file : Outcome) (x : LoadTold) (next : Runner) (e : outcome (loadReply
   shows : (text : List ℕ) → Prints text r out after → Shows text
   shows text p = (p .0, (p .1, counts text r out after l p))
 
-  abbrev Greets : Bool → Type 0
-  Greets b = (next ≡ file .next) × ((b ≡ accepted (file .told .reply)) × Shows (replyText (file .told .reply)))
+  abbrev Opens : Bool → Type 0
+  Opens b = (next ≡ file .next) × ((b ≡ accepted (file .told .reply)) × Shows (replyText (file .told .reply)))
 
-  pub greets-chart : (k n : ℕ) → x ≡ load.Chart k n → Prints (chartText k n) r out after → Greets true
+  pub opens-chart : (k n : ℕ) → x ≡ load.Chart k n → Prints (chartText k n) r out after → Opens true
   unfolding loadReply replyText accepted
-  greets-chart k n q p = rw (sym e, q) (refl, (refl, shows (chartText k n) p))
+  opens-chart k n q p = rw (sym e, q) (refl, (refl, shows (chartText k n) p))
 
-  pub greets-refusal : (y : Refusal) → x ≡ load.Refused y → Prints (refusedText (y .number) (y .detail)) r out after → Greets false
+  pub opens-refusal : (y : Refusal) → x ≡ load.Refused y → Prints (refusedText (y .number) (y .detail)) r out after → Opens false
   unfolding loadReply replyText accepted
-  greets-refusal y q p = rw (sym e, q) (refl, (refl, shows (refusedText (y .number) (y .detail)) p))
+  opens-refusal y q p = rw (sym e, q) (refl, (refl, shows (refusedText (y .number) (y .detail)) p))
 
 -- The texts of a line.
 module _ (s : Runner) (number : ℕ) (line : List ℕ) (ns : Numbers) (p : ns ≡ parse line) (r : ℕ) (out after : List ℕ) where
@@ -57,7 +58,7 @@ module _ (s : Runner) (number : ℕ) (line : List ℕ) (ns : Numbers) (p : ns �
   unfolding respond
   ill-formed z q = rw (sym p, eq-eqb (ns .count) 0 z) q
 
-  module _ (z : ns .count ≡ 0 → ⊥) (x : Verdict) (next : Runner) (e : outcome (verdictReply x) [] next ≡ call (asked ns) s) where
+  module _ (z : ns .count ≡ 0 → ⊥) (x : Verdict) (next : Runner) (e : outcome (verdictReply x) [] next ≡ call (beginOf ns) s) where
     pub refuses : (y : Refusal) → x ≡ verdict.Refused y → Prints (refusedText (y .number) (y .detail)) r out after → Responds
     unfolding respond answered verdictReply replyText accepted
     refuses y w q = rw (sym p, ne-eqb (ns .count) 0 z, sym e, w) q
@@ -66,7 +67,7 @@ module _ (s : Runner) (number : ℕ) (line : List ℕ) (ns : Numbers) (p : ns �
         → (told : AnswerTold) → outcome (answerReply told) [] last ≡ call answer last → Prints (replyText (answerReply told)) r out after → Responds
     unfolding respond answered verdictReply replyText accepted
     runs w t last f told g q =
-        let end : last ≡ ran next = ap (λ (o : Outcome). o .next) f in
-        let text : answerReply told ≡ call answer (ran next) .told .reply
+        let end : last ≡ runOut next = ap (λ (o : Outcome). o .next) f in
+        let text : answerReply told ≡ call answer (runOut next) .told .reply
         = ap (λ (o : Outcome). o .told .reply) g ∙ ap (λ (y : Runner). call answer y .told .reply) end in
         rw (sym p, ne-eqb (ns .count) 0 z, sym e, w, sym text) q

@@ -1,5 +1,5 @@
 // What the run program prints for its chart file and for a line, at the front of a lent buffer.
-use begin::Verdict;
+use calls::Verdict;
 use runner::AnswerTold;
 use runner::LoadTold;
 use runner::Runner;
@@ -8,17 +8,17 @@ ghost use lib.ListN.{length};
 ghost use Rattle.io.specs.Counts.{Counts};
 ghost use Rattle.texts.specs.Printing.{printed, printedLength};
 ghost use Rattle.runner.specs.Replies.{answerReply};
-ghost use Rattle.reply.specs.Reply.{replyText, accepted, loaded, respond, LinesEnd, LinesApart};
+ghost use Rattle.reply.specs.Reply.{replyText, accepted, loaded, respond};
 
 // The runner afterwards, how many bytes were printed, and whether a chart was loaded.
-pub struct Greeted {
+pub struct Opened {
     pub runner: Runner,
     pub length: usize,
     pub loaded: bool,
 }
 
 // The chart line, or the refusal of a file.
-pub fn greet(runner: Runner, file: &[u8], out: &mut [u8]) -> Greeted
+pub fn load_chart(runner: Runner, file: &[u8], out: &mut [u8]) -> Opened
     ensures { λ r. ⌜ r .runner ≡ loaded (now (file .entry)) runner .next ⌝ }
     ensures { λ r. ⌜ r .loaded ≡ accepted (loaded (now (file .entry)) runner .told .reply) ⌝ }
     ensures { λ r. ⌜ r .length ≡ printedLength (replyText (loaded (now (file .entry)) runner .told .reply)) (length (now (out .entry))) ⌝ }
@@ -31,7 +31,7 @@ pub fn greet(runner: Runner, file: &[u8], out: &mut [u8]) -> Greeted
     match told {
         LoadTold::Chart { inputs, boxes } => {
             let length = texts::print_chart(inputs, boxes, out);
-            Greeted {
+            Opened {
                 runner: after,
                 length,
                 loaded: true,
@@ -39,7 +39,7 @@ pub fn greet(runner: Runner, file: &[u8], out: &mut [u8]) -> Greeted
         }
         LoadTold::Refused(refusal) => {
             let length = texts::print_refused(refusal.number, refusal.detail as u64, out);
-            Greeted {
+            Opened {
                 runner: after,
                 length,
                 loaded: false,
@@ -92,8 +92,3 @@ pub fn respond(runner: Runner, number: u64, text: &[u8], out: &mut [u8]) -> usiz
         }
     }
 }
-
-// The claims of lines, which this contract holds.
-pub fn promised()
-    ensures { λ _. ⌜ LinesEnd × LinesApart ⌝ }
-{}

@@ -1,4 +1,5 @@
--- What the box at hand does, by the act that the code computed of it, and how a run ends or goes on after it. Assumes nothing.
+-- The loop of advance: what the box at hand does, by the act that the code computed of it, how the run ends or goes on after it, and what advance
+-- leaves and tells where the loop is left. Assumes nothing.
 use Prim.Native.Nat.{ℕ, _+_, _-_, _^_, _<_, _≤_}
 use mathlib.Core.Path.{_≡_, refl, ap, sym, _∙_, subst}
 use mathlib.Core.Logic.{_⊎_, inl, inr}
@@ -6,108 +7,144 @@ use mathlib.Core.List.{List, []}
 use mathlib.Core.Bool.{Bool, true, false, cond}
 use native.Mathlib.Omega.{arith}
 use lib.Dec.{eqb}
-use borrow.Author.Tests.{le-leb, lt-leb, ne-eqb}
-use Rattle.rules.specs.Decode.{boxAt}
-use Rattle.rules.specs.Marks.{modeOf}
-use Rattle.step.specs.Act.{act}
-use Rattle.rules.specs.declared.decode.FlowBox.{FlowBox}
-use Rattle.step.specs.declared.Act.{Act}
+use borrow.Author.Tests.{le-leb, lt-leb}
+use Rattle.decode.specs.Decode.{boxAt, meaning}
+use Rattle.decode.specs.declared.FlowBox.{FlowBox}
+use Rattle.marks.specs.Marks.{modeOf}
+use Rattle.marks.specs.declared.Mode.{Mode}
+use Rattle.machine.specs.Act.{act}
+use Rattle.machine.specs.Run.{Run, Ending, valued, notice, spent, Progress, going, over, moved, goesOn, settle, step, run}
+use Rattle.machine.specs.declared.Act.{Act}
+use Rattle.machine.proofs.Runs.{over-still, run-one}
+use Rattle.calls.specs.Calls as calls
 use Rattle.runner.specs.declared.Runner.{Runner}
 use Rattle.runner.specs.declared.AdvanceTold.{AdvanceTold}
-use Rattle.runner.specs.State.{headerIn, isRunning, Ending, valued, notice, spent, stateOf, valueIn, resting, endedWith}
-use Rattle.runner.specs.Step.{moved, goesOn, settle, boxRun, run}
-use Rattle.runner.specs.Calls.{call}
-use Rattle.runner.specs.Calls as calls
-use Rattle.runner.specs.Replies.{advanceReply, outcome}
-use Rattle.runner.proofs.Runs.{still, step-is, run-one}
-use Rattle.runner.proofs.Outcomes.{advance-does}
+use Rattle.runner.specs.State.{chartIn, isRunning, stateOf, valueIn, runnerOf, runIn, noRun, endedWith, ran, resumed}
+use Rattle.runner.specs.Outcomes.{outcome, progressReply, call}
+use Rattle.runner.specs.Outcomes as outcomes
+use Rattle.runner.specs.Replies.{advanceReply}
+use Rattle.runner.proofs.Outcomes.{advance-runs, advance-refuses}
 
--- The box at hand, of a runner in a mode, and the act that the code computed of it.
-pub box-does : (r : Runner) (mode : ℕ) (b : FlowBox) (a x : Act) → r .mode ≡ mode → b ≡ boxAt (r .table) (r .at)
-    → a ≡ act (modeOf mode) b (r .vars) (r .marks) (r .counter) → a ≡ x → boxRun r ≡ settle x r
-box-does r mode b a x em eb ea d =
-    ap (λ (k : ℕ). settle (act (modeOf k) (boxAt (r .table) (r .at)) (r .vars) (r .marks) (r .counter)) r) em
-    ∙ ap (λ (y : FlowBox). settle (act (modeOf mode) y (r .vars) (r .marks) (r .counter)) r) (sym eb)
-    ∙ ap (λ (y : Act). settle y r) (sym ea ∙ d)
+-- The run in a runner, at another box after other steps, as the loop keeps them.
+abbrev pub seen : Runner → (at steps : ℕ) → Run
+seen s at steps =
+    record { vars = s .vars; marks = s .marks; counter = s .counter; mode = s .mode; at = at; limit = s .limit; steps = steps }
 
--- A runner that stands at a box after so many steps.
-abbrev pub seen : Runner → (at steps : ℕ) → Runner
-seen q at steps =
-    record { table = q .table; vars = q .vars; marks = q .marks; counter = q .counter; inputs = q .inputs; boxes = q .boxes; first = q .first; mode = q .mode; at = at; limit = q .limit; steps = steps; state = q .state; count = q .count; value = q .value }
-
--- A box that does not end the run has left q, and goes to a box; its step is still to be counted.
-pub record Left (r q : Runner) (at : ℕ) : Type 0 where
-  pub goes : boxRun r ≡ goesOn r (q .vars) (q .marks) (q .counter) at
-  pub header : headerIn q ≡ headerIn r
-  pub table : q .table ≡ r .table
-  pub counted : moved r (q .vars) (q .marks) (q .counter) at ≡ seen q at (r .steps + 1)
-
--- The runner with what a box stores.
+-- A runner with what a box stores.
 abbrev pub placed : Runner → (vars marks : List ℕ) → (counter : ℕ) → Runner
 placed r vars marks counter =
-    record { table = r .table; vars = vars; marks = marks; counter = counter; inputs = r .inputs; boxes = r .boxes; first = r .first; mode = r .mode; at = r .at; limit = r .limit; steps = r .steps; state = r .state; count = r .count; value = r .value }
+    runnerOf (chartIn r)
+    (record { vars = vars; marks = marks; counter = counter; mode = r .mode; at = r .at; limit = r .limit; steps = r .steps })
+    (r .state) (r .took) (r .value)
 
-pub left : (s q : Runner) (from steps : ℕ) (vars marks : List ℕ) (counter to at : ℕ) → q ≡ placed s vars marks counter → at ≡ to
-    → boxRun (seen s from steps) ≡ goesOn (seen s from steps) vars marks counter to → Left (seen s from steps) q at
-left s q from steps vars marks counter to at e d g =
-    subst (Left (seen s from steps) q) (sym d)
-    (subst (λ (x : Runner). Left (seen s from steps) x to) (sym e) (record { goes = g; header = refl; table = refl; counted = refl }))
+-- A runner that differs from another in what boxes store alone.
+abbrev pub Stored : Runner → Runner → Type 0
+Stored r s = s ≡ placed r (s .vars) (s .marks) (s .counter)
 
--- Its spent ending, and its count.
-module _ (r q : Runner) (at : ℕ) (l : Left r q at) where
-  pub spent-left : r .limit ≤ r .steps + 1 → boxRun r ≡ endedWith spent (r .steps + 1) r
-  unfolding goesOn
-  spent-left h = l .goes ∙ rw (le-leb _ _ h)
+pub stored-more : (r s q : Runner) (vars marks : List ℕ) (counter : ℕ) → Stored r s → q ≡ placed s vars marks counter → Stored r q
+stored-more r s q vars marks counter h e =
+    subst (Stored r) (sym (e ∙ ap (λ (x : Runner). placed x vars marks counter) h)) refl
 
-  pub counted-left : r .steps + 1 < r .limit → boxRun r ≡ seen q at (r .steps + 1)
-  unfolding goesOn
-  counted-left h = l .goes ∙ rw (lt-leb _ _ h) (l .counted)
+-- The box at hand of a runner s that has come from r, and the act that the code computed of it.
+pub acts : (s r : Runner) (mode : Mode) (at steps : ℕ) (b : FlowBox) (a : Act) → Stored r s → mode ≡ modeOf (r .mode)
+    → b ≡ boxAt (s .table) at → a ≡ act mode (meaning b) (s .vars) (s .marks) (s .counter)
+    → (x : Act) → a ≡ x → step (r .table) (seen s at steps) ≡ settle x (seen s at steps)
+acts s r mode at steps b a h em eb ea x d =
+    let q = seen s at steps in
+    ap (λ (y : Runner). settle (act (modeOf (s .mode)) (meaning (boxAt (y .table) at)) (q .vars) (q .marks) (q .counter)) q) (sym h)
+    ∙ ap (λ (y : Runner). settle (act (modeOf (y .mode)) (meaning (boxAt (s .table) at)) (q .vars) (q .marks) (q .counter)) q) h
+    ∙ ap (λ (k : Mode). settle (act k (meaning (boxAt (s .table) at)) (q .vars) (q .marks) (q .counter)) q) (sym em)
+    ∙ ap (λ (y : FlowBox). settle (act mode (meaning y) (q .vars) (q .marks) (q .counter)) q) (sym eb)
+    ∙ ap (λ (y : Act). settle y q) (sym ea ∙ d)
 
--- What m boxes from r come to: the runner s at a box after so many steps in the state that r has, or an ending.
-abbrev pub CameTo : (m : ℕ) (r s : Runner) (at end value steps : ℕ) → Type 0
-CameTo m r s at end value steps =
-    ((end ≡ 1) × (steps < 2 ^ 16) × (s .state ≡ r .state) × (run m r ≡ seen s at steps))
-    ⊎ ((end ≡ 1 → ⊥) × (run m r ≡ resting (headerIn s) (s .table) end steps value))
+-- A box that does not end the run has left s, and goes to a box.
+pub left : (table : List ℕ) (r s : Runner) (from steps : ℕ) (vars marks : List ℕ) (counter to at : ℕ) → s ≡ placed r vars marks counter → at ≡ to
+    → step table (seen r from steps) ≡ goesOn (moved (seen r from steps) vars marks counter to)
+    → step table (seen r from steps) ≡ goesOn (seen s at (steps + 1))
+left table r s from steps vars marks counter to at e d g =
+    g ∙ ap (λ (n : ℕ). goesOn (seen (placed r vars marks counter) n (steps + 1))) (sym d) ∙ ap (λ (x : Runner). goesOn (seen x at (steps + 1))) (sym e)
 
-not-under-way : (e : Ending) → stateOf e ≡ 1 → ⊥
-not-under-way (valued v) h = omega arith
-not-under-way notice h = omega arith
-not-under-way spent h = omega arith
+-- It makes the count equal the limit, or the run goes on.
+pub goes-spent : (q : Run) → q .limit ≤ q .steps → goesOn q ≡ over spent (q .steps)
+unfolding goesOn
+goes-spent q h = rw (le-leb _ _ h)
 
--- A run of m boxes from r₀ that stands at r with n to go.
-module _ (m n : ℕ) (r₀ r : Runner) (t : run m r₀ ≡ run n r) (s : r .state ≡ 1) where
-  -- the turn of the loop
-  pub turned : (q : Runner) → 0 < n → boxRun r ≡ q → run m r₀ ≡ run (n - 1) q
-  turned q h d =
-      let on : isRunning r ≡ true = rw s in
-      t ∙ run-one n r h ∙ ap (run (n - 1)) (step-is r on ∙ d)
+pub goes-further : (q : Run) → q .steps < q .limit → goesOn q ≡ going q
+unfolding goesOn
+goes-further q h = rw (lt-leb _ _ h)
 
-  over : (e : Ending) (count : ℕ) (x : Runner) → isRunning (endedWith e count x) ≡ false
-  unfolding endedWith
-  over (valued v) count x = refl
-  over notice count x = refl
-  over spent count x = refl
+-- What m boxes of a run come to: it goes on in the runner s at a box after so many steps, or it is over.
+abbrev pub CameTo : (table : List ℕ) (m : ℕ) (q : Run) (s : Runner) (at end value steps : ℕ) → Type 0
+CameTo table m q s at end value steps =
+    ((end ≡ 1) × (steps < 2 ^ 16) × (run table m (going q) ≡ going (seen s at steps)))
+    ⊎ ((e : Ending) × (end ≡ stateOf e) × (value ≡ valueIn e) × (run table m (going q) ≡ over e steps))
 
-  -- the box at hand ends the run
-  pub came-to : (e : Ending) (q : Runner) (at end value steps : ℕ) → 0 < n → boxRun r ≡ endedWith e (r .steps + 1) r → headerIn q ≡ headerIn r
-      → q .table ≡ r .table → end ≡ stateOf e → value ≡ valueIn e → steps ≡ r .steps + 1 → CameTo m r₀ q at end value steps
-  unfolding endedWith
-  came-to e q at end value steps h d eh et ee ev es =
-      let same : run m r₀ ≡ endedWith e (r .steps + 1) r = turned _ h d ∙ still (n - 1) _ (over e (r .steps + 1) r) in
-      inr (
-        (λ x. not-under-way e (sym ee ∙ x)),
-        same ∙ rw (eh, et, ee, ev, es) refl,
-      )
+-- A run of m boxes that has come to q with n to go: the turn of the loop, and the end.
+module _ (table : List ℕ) (m n : ℕ) (first q : Run) (t : run table m (going first) ≡ run table n (going q)) (h : 0 < n) where
+  pub turned : (p : Progress) → step table q ≡ p → run table m (going first) ≡ run table (n - 1) p
+  turned p d = t ∙ run-one table n q h ∙ ap (run table (n - 1)) d
+
+  pub came-over : (e : Ending) (s : Runner) (at end value steps : ℕ) → step table q ≡ over e (q .steps + 1) → end ≡ stateOf e → value ≡ valueIn e
+      → steps ≡ q .steps + 1
+      → CameTo table m first s at end value steps
+  came-over e s at end value steps d ee ev es =
+      inr (e, ee, ev, turned _ d ∙ over-still table (n - 1) e (q .steps + 1) ∙ ap (over e) (sym es))
+
+-- The state of an ending is not that of a run under way.
+pub no-ending : (e : Ending) → stateOf e ≡ 1 → ⊥
+no-ending (valued v) h = omega arith
+no-ending notice h = omega arith
+no-ending spent h = omega arith
+
+not-under-way : (e : Ending) → eqb (stateOf e) 1 ≡ false
+not-under-way (valued v) = refl
+not-under-way notice = refl
+not-under-way spent = refl
+
+going-once : {q q′ : Run} → going q ≡ going q′ → q ≡ q′
+going-once e = cc
+
+-- The runner that advance hands back: at a box of the run, or with the ending.
+abbrev pub standsAt : Runner → (at steps : ℕ) → Runner
+standsAt s at steps = runnerOf (chartIn s) (seen s at steps) (s .state) (s .took) (s .value)
+
+stands : (r s next : Runner) (at steps : ℕ) → Stored r s → next ≡ standsAt s at steps → next ≡ resumed (going (seen s at steps)) r
+unfolding resumed
+stands r s next at steps h e =
+    e ∙ ap (λ (x : Runner). runnerOf (chartIn x) (seen s at steps) (x .state) (x .took) (x .value)) h
 
 -- What advance leaves and tells where its boxes have come to s.
-pub advance-came : (m : ℕ) (r s next : Runner) (running : Bool) (at end value steps : ℕ) (told : AdvanceTold) → running ≡ isRunning r
-    → CameTo (cond running m 0) r s at end value steps → (end ≡ 1 → next ≡ seen s at steps)
-    → ((end ≡ 1 → ⊥) → next ≡ resting (headerIn s) (s .table) end steps value)
-    → advanceReply told ≡ cond running (cond (eqb end 1) (calls.running steps) (calls.ended steps)) (calls.refused 23 0)
-    → outcome (advanceReply told) [] next ≡ call (calls.advance m) r
-advance-came m r s next running at end value steps told e (inl w) stays ends t =
-    let d = stays (w .0) in
-    advance-does m r running (eqb end 1) next steps told e (d ∙ sym (w .3)) (λ on. rw (d, w .2, sym e, on, w .0) refl) (rw (d, w .0) refl) t
-advance-came m r s next running at end value steps told e (inr w) stays ends t =
-    let d = ends (w .0) in
-    advance-does m r running (eqb end 1) next steps told e (d ∙ sym (w .1)) (λ on. rw d refl) (rw (d, ne-eqb _ _ (w .0)) refl) t
+module _ (m : ℕ) (r s next : Runner) (at end value steps : ℕ) (told : AdvanceTold) (h : Stored r s)
+    (stays : end ≡ 1 → next ≡ standsAt s at steps) (ends : (end ≡ 1 → ⊥) → next ≡ runnerOf (chartIn s) noRun end steps value) where
+  came-running : isRunning r ≡ true → CameTo (r .table) m (runIn r) s at end value steps
+      → advanceReply told ≡ cond (eqb end 1) (outcomes.running steps) (outcomes.ended steps)
+      → outcome (advanceReply told) [] next ≡ call (calls.advance m) r
+  unfolding progressReply resumed endedWith
+  came-running on (inl w) t =
+      advance-runs m r next told (going (seen s at steps)) on (w .2) (t ∙ rw (w .0)) (stands r s next at steps h (stays (w .0)))
+  came-running on (inr w) t =
+      let e = w .0 in
+      let no : eqb end 1 ≡ false = ap (λ (k : ℕ). eqb k 1) (w .1) ∙ not-under-way e in
+      advance-runs m r next told (over e steps) on (w .3) (t ∙ rw no)
+      (ends (λ z. let y : eqb end 1 ≡ true = rw z in clash-bool y no) ∙ rw (w .1, w .2) (ap (λ (x : Runner). runnerOf (chartIn x) noRun (stateOf e) steps (valueIn e)) h))
+    where
+      clash-bool : {b : Bool} → b ≡ true → b ≡ false → ⊥
+      clash-bool y z = let q : _≡_ {A = ℕ} 0 1 = cc in omega arith
+
+  came-resting : isRunning r ≡ false → CameTo (r .table) 0 (runIn r) s at end value steps → advanceReply told ≡ outcomes.refused 23 0
+      → outcome (advanceReply told) [] next ≡ call (calls.advance m) r
+  unfolding run resumed
+  came-resting off (inl w) t =
+      let same : seen s at steps ≡ runIn r = going-once (sym (w .2)) in
+      advance-refuses m r next told off t
+      (stands r s next at steps h (stays (w .0)) ∙ ap (λ (q : Run). runnerOf (chartIn r) q (r .state) (r .took) (r .value)) same)
+  came-resting off (inr w) t =
+      let e : going (runIn r) ≡ over (w .0) steps = w .3 in
+      let z : _≡_ {A = ℕ} 0 1 = cc in
+      absurd (omega arith)
+
+  pub advance-came : (running : Bool) → running ≡ isRunning r → CameTo (r .table) (cond running m 0) (runIn r) s at end value steps
+      → advanceReply told ≡ cond running (cond (eqb end 1) (outcomes.running steps) (outcomes.ended steps)) (outcomes.refused 23 0)
+      → outcome (advanceReply told) [] next ≡ call (calls.advance m) r
+  advance-came true e w t = came-running (sym e) w t
+  advance-came false e w t = came-resting (sym e) w t

@@ -1,4 +1,3 @@
--- Laws of the definitions, which the proofs of the calls and the claims cite.
-pub mod Runs
+-- Laws that the proofs of the methods cite: the outcome of each call, and the loop of advance.
 pub mod Outcomes
 pub mod Boxes

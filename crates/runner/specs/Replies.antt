@@ -1,19 +1,16 @@
 -- What the code's answers tell, one definition for each enum: document 01's number, detail and values for every case.
-use Prim.Native.Nat.{ℕ}
-use mathlib.Core.List.{List}
-use Rattle.chart.specs.declared.Written.{Written}
-use Rattle.chart.specs.declared.Written.the-variants as written
-use Rattle.begin.specs.declared.Verdict.{Verdict}
-use Rattle.begin.specs.declared.Verdict.the-variants as verdict
-use Rattle.runner.specs.State.{valued, notice, spent}
-use Rattle.runner.specs.Calls.{Reply, done, chart, running, ended, ending, wrote, turnedAway, Outcome}
-use Rattle.runner.specs.declared.Runner.{Runner}
+use Rattle.machine.specs.Run.{valued, notice, spent}
+use Rattle.calls.specs.declared.Verdict.{Verdict}
+use Rattle.calls.specs.declared.Verdict.the-variants as verdict
+use Rattle.runner.specs.Outcomes.{Reply, done, chart, running, ended, ending, wrote, turnedAway}
 use Rattle.runner.specs.declared.LoadTold.{LoadTold}
 use Rattle.runner.specs.declared.LoadTold.the-variants as load
 use Rattle.runner.specs.declared.AdvanceTold.{AdvanceTold}
 use Rattle.runner.specs.declared.AdvanceTold.the-variants as advance
 use Rattle.runner.specs.declared.AnswerTold.{AnswerTold}
 use Rattle.runner.specs.declared.AnswerTold.the-variants as answer
+use Rattle.runner.specs.declared.Written.{Written}
+use Rattle.runner.specs.declared.Written.the-variants as written
 
 unfoldable pub loadReply : LoadTold → Reply
 loadReply (load.Chart inputs boxes) = chart inputs boxes
@@ -37,7 +34,3 @@ answerReply (answer.Refused x) = turnedAway x
 unfoldable pub writtenReply : Written → Reply
 writtenReply (written.Length bytes) = wrote bytes
 writtenReply (written.Refused x) = turnedAway x
-
--- The outcome of a call: its reply, the lent buffer and the runner afterwards.
-abbrev pub outcome : Reply → List ℕ → Runner → Outcome
-outcome reply buffer next = record { told = record { reply = reply; buffer = buffer }; next = next }

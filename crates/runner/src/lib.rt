@@ -1,37 +1,35 @@
 // The runner and its six calls.
-use begin::Verdict;
-use chart::Written;
+use calls::Verdict;
 use format::Checked;
 use format::Header;
 use format::Refusal;
-use step::Act;
+use machine::Act;
 ghost use mathlib.Core.Path.{_≡_};
 ghost use mathlib.Core.Bool.{cond};
 ghost use mathlib.Core.List.{[]};
 ghost use lib.Dec.{eqb};
 ghost use Rattle.format.specs.File.{refusal};
+ghost use Rattle.calls.specs.Calls.{load, begin, advance, answer, abandon, writeBack};
 ghost use Rattle.runner.specs.State.{newRunner, dropped};
-ghost use Rattle.runner.specs.Calls.{load, begin, advance, answer, abandon, writeBack, call};
-ghost use Rattle.runner.specs.Calls as calls;
-ghost use Rattle.runner.specs.Replies.{loadReply, verdictReply, advanceReply, answerReply, writtenReply, outcome};
+ghost use Rattle.runner.specs.Outcomes.{outcome, call};
+ghost use Rattle.runner.specs.Outcomes as outcomes;
+ghost use Rattle.runner.specs.Replies.{loadReply, verdictReply, advanceReply, answerReply, writtenReply};
 
-// The chart that is held: the box table, and the header's `inputs`, `boxes` and `first`. Of a run under way: the variables, their marks, the
-// counter mark, the mode, the box at hand, the limit and the steps so far. `state` is 0 without a run, 1 with one under way, and 2, 3 or 4
-// where one has ended with a value, a notice or spent, after `count` steps and with `value`.
+// The chart that is held: its header and the box table. Of a run under way: the variables, their marks, the counter mark, the mode, the box at
+// hand, the limit and the steps so far. `state` is 0 without a run, 1 with one under way, and 2, 3 or 4 where one has ended with a value, a
+// notice or spent; it `took` so many steps, and its value is `value`.
 pub struct Runner {
+    header: Header,
     table: [u8; 2040],
     vars: [u32; 32],
     marks: [u8; 32],
     counter: u8,
-    inputs: u8,
-    boxes: u8,
-    first: u8,
     mode: u8,
     at: u8,
     limit: u16,
     steps: u16,
     state: u8,
-    count: u32,
+    took: u32,
     value: u32,
 }
 
@@ -72,6 +70,12 @@ pub enum AnswerTold {
     Refused(Refusal),
 }
 
+// What write back tells.
+pub enum Written {
+    Length(usize),
+    Refused(Refusal),
+}
+
 // A refusal whose detail is 0.
 fn refusal(number: u32) -> Refusal
     ensures { λ r. ⌜ r ≡ refusal number 0 ⌝ }
@@ -83,20 +87,23 @@ impl Runner {
     pub fn new() -> Runner
         ensures { λ r. ⌜ r ≡ newRunner ⌝ }
     {
+        let header = Header {
+            inputs: 0,
+            boxes: 0,
+            first: 0,
+        };
         Runner {
+            header,
             table: [0; 2040],
             vars: [0; 32],
             marks: [0; 32],
             counter: 0,
-            inputs: 0,
-            boxes: 0,
-            first: 0,
             mode: 0,
             at: 0,
             limit: 0,
             steps: 0,
             state: 0,
-            count: 0,
+            took: 0,
             value: 0,
         }
     }
@@ -113,7 +120,7 @@ impl Runner {
         self.limit = 0;
         self.steps = 0;
         self.state = 0;
-        self.count = 0;
+        self.took = 0;
         self.value = 0;
         self
     }
@@ -130,10 +137,8 @@ impl Runner {
         match checked {
             Checked::Accepted(header) => {
                 let table = chart::table_of(file);
+                self.header = header;
                 self.table = table;
-                self.inputs = header.inputs;
-                self.boxes = header.boxes;
-                self.first = header.first;
                 let told = LoadTold::Chart {
                     inputs: header.inputs,
                     boxes: header.boxes,
@@ -152,25 +157,21 @@ impl Runner {
     pub fn begin(mut self, mode: u32, inputs: &[u32], allowed: u32, limit: u32) -> Changed
         ensures { λ r. ⌜ outcome (verdictReply (r .told)) [] (r .runner) ≡ call (begin mode (now (inputs .entry)) allowed limit) self ⌝ }
     {
-        let header = Header {
-            inputs: self.inputs,
-            boxes: self.boxes,
-            first: self.first,
-        };
-        let told = begin::check(header, self.state == 1, mode, inputs.len(), allowed, limit);
+        let header = self.header;
+        let told = calls::check_begin(header, self.state == 1, mode, inputs, allowed, limit);
         match told {
             Verdict::Done => {
                 let vars = begin::first_vars(inputs);
-                let marks = begin::first_marks(allowed, self.inputs);
+                let marks = begin::first_marks(allowed, header.inputs);
                 self.vars = vars;
                 self.marks = marks;
                 self.counter = 0;
                 self.mode = mode as u8;
-                self.at = self.first;
+                self.at = header.first;
                 self.limit = begin::effective(limit) as u16;
                 self.steps = 0;
                 self.state = 1;
-                self.count = 0;
+                self.took = 0;
                 self.value = 0;
             }
             Verdict::Refused(_) => {}
@@ -184,7 +185,7 @@ impl Runner {
     {
         let running = self.state == 1;
         let limit = self.limit as u32;
-        let mode = self.mode;
+        let mode = marks::mode_of(self.mode);
         let mut todo = amount(running, m);
         let mut at = self.at;
         let mut steps = self.steps as u32;
@@ -193,8 +194,8 @@ impl Runner {
         while 0 < todo {
             todo = todo - 1;
             steps = steps + 1;
-            let b = rules::decode::box_at(&self.table, at);
-            let done = step::run_box(mode, b, &self.vars, &self.marks, self.counter);
+            let b = decode::box_at(&self.table, at);
+            let done = machine::run_box(mode, b, &self.vars, &self.marks, self.counter);
             match done {
                 Act::Store {
                     target,
@@ -238,7 +239,7 @@ impl Runner {
             self.limit = 0;
             self.steps = 0;
             self.state = end;
-            self.count = steps;
+            self.took = steps;
             self.value = value;
         }
         let told = tell(running, end, steps);
@@ -251,7 +252,7 @@ impl Runner {
     {
         if self.state != 1 {
             return Changed {
-                told: begin::refuse(23),
+                told: calls::refuse(23),
                 runner: self,
             };
         }
@@ -266,7 +267,7 @@ impl Runner {
         ensures { λ r. ⌜ outcome (answerReply r) [] self ≡ call answer self ⌝ }
     {
         let state = self.state;
-        let steps = self.count;
+        let steps = self.took;
         if state < 2 {
             return AnswerTold::Refused(refusal(24));
         }
@@ -284,12 +285,15 @@ impl Runner {
     pub fn write_back(self, buf: &mut [u8]) -> Written
         ensures { λ r. ⌜ outcome (writtenReply r) (now (buf .exit)) self ≡ call (writeBack (now (buf .entry))) self ⌝ }
     {
-        let header = Header {
-            inputs: self.inputs,
-            boxes: self.boxes,
-            first: self.first,
-        };
-        chart::write_back(header, &self.table, buf)
+        let header = self.header;
+        let verdict = calls::check_write_back(header, buf.len());
+        match verdict {
+            Verdict::Done => {
+                chart::put_file(header, &self.table, buf);
+                Written::Length(chart::file_length(header))
+            }
+            Verdict::Refused(refusal) => Written::Refused(refusal),
+        }
     }
 }
 
@@ -303,7 +307,7 @@ fn amount(running: bool, m: u32) -> u32
 // What advance tells of a run that has come to state `end`, where one was under way.
 fn tell(running: bool, end: u8, steps: u32) -> AdvanceTold
     ensures { λ r.
-        ⌜ advanceReply r ≡ cond running (cond (eqb end 1) (calls.running steps) (calls.ended steps)) (calls.refused 23 0) ⌝ }
+        ⌜ advanceReply r ≡ cond running (cond (eqb end 1) (outcomes.running steps) (outcomes.ended steps)) (outcomes.refused 23 0) ⌝ }
 {
     if running {
         if end == 1 {

@@ -1,21 +1,29 @@
-// The library for callers in other languages, to be compared: a list of calls, given as numbers, and what each tells.
+// The library for callers in other languages: a list of calls, given as numbers, and what each tells.
 //
 // A call is 24 numbers: its kind, then its arguments. 0 load and 6 show a box: where the file starts among the lent bytes, its length, and the number of
 // the box; 1 begin: mode, allowed set, limit, how many inputs, and the inputs; 2 advance: the amount; 3 answer; 4 abandon; 5 write back: how many
 // bytes of the buffer are lent.
-use rounds::least;
 use runner::Runner;
-use told::Told;
+use told::Encoded;
+use told::kinds;
+ghost use Prim.Native.Nat.{min};
+ghost use mathlib.Core.Path.{_≡_};
 
 // After a call: the runner, what was told, and a sum over the bytes of a lent buffer or a returned part.
 struct Turn {
     runner: Runner,
-    told: Told,
+    told: Encoded,
     sum: u32,
 }
 
-fn after(runner: Runner, told: Told, sum: u32) -> Turn {
+fn after(runner: Runner, told: Encoded, sum: u32) -> Turn {
     Turn { runner, told, sum }
+}
+
+fn least(a: usize, b: usize) -> usize
+    ensures { λ r. ⌜ r ≡ min a b ⌝ }
+{
+    if a < b { a } else { b }
 }
 
 // The number at a place, 0 past the end.
@@ -96,7 +104,11 @@ fn make(runner: Runner, files: &[u8], words: &[u32], buf: &mut [u8]) -> Turn {
                 part(files, word(words, 1), word(words, 2)),
                 word(words, 3),
             );
-            after(runner, told::make(9, shown.len() as u64, 0), sum_of(shown))
+            after(
+                runner,
+                told::make(kinds::SHOWN, shown.len() as u64, 0),
+                sum_of(shown),
+            )
         }
     }
 }
@@ -108,7 +120,7 @@ fn store(told: &mut [u32], at: usize, number: u32) {
 }
 
 // The four numbers of call i, where there is room for them.
-fn put(told: &mut [u32], i: usize, made: Told, sum: u32) {
+fn put(told: &mut [u32], i: usize, made: Encoded, sum: u32) {
     if i < told.len() / 4 {
         let to = 4 * i;
         let second = to + 1;

@@ -107,13 +107,13 @@ pub fn run() {
     let length = read_chart(&mut file);
     let mut texts = io::large_buffer();
     let out: &mut [u8] = &mut texts;
-    let greeted = reply::greet(Runner::new(), &file[..length], out);
-    let runner = greeted.runner;
-    let size = greeted.length;
+    let opened = reply::load_chart(Runner::new(), &file[..length], out);
+    let runner = opened.runner;
+    let size = opened.length;
     if !write(&out[..size]) {
         return;
     }
-    if greeted.loaded {
+    if opened.loaded {
         let mut input = io::large_buffer();
         serve(runner, &mut input, out);
     }

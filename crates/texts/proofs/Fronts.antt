@@ -36,7 +36,8 @@ module _ (text out : List ℕ) where
       )
 
 -- A clause: the word, then the digits in the rest.
-pub clause-front : (w ds out one part : List ℕ) (n a k count : ℕ) → ds ≡ decimal n → one ≡ front w out → a ≡ length w → k ≡ length one - a → part ≡ front ds (take k (drop a one))
+pub clause-front : (w ds out one part : List ℕ) (n a k count : ℕ) → ds ≡ decimal n → one ≡ front w out → a ≡ length w
+    → k ≡ length one - a → part ≡ front ds (take k (drop a one))
     → count ≡ length ds → count ≤ 20 → (a + count ≡ length (clause w n)) × ((a + count ≤ length w + 20) × (putMid a k one part ≡ front (clause w n) out))
 unfolding clause
 clause-front w ds out one part n a k count d e h q r m l =

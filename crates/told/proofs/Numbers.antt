@@ -2,12 +2,12 @@
 use mathlib.Core.Path.{_≡_, refl, ap, sym, _∙_}
 use mathlib.Core.Bool.{cond}
 use lib.Dec.{eqb}
-use Rattle.runner.specs.State.{valued, notice, spent}
-use Rattle.runner.specs.Calls.{Reply, done, chart, running, ended, ending, wrote, refused}
+use Rattle.machine.specs.Run.{valued, notice, spent}
+use Rattle.runner.specs.Outcomes.{Reply, done, chart, running, ended, ending, wrote, refused}
 use Rattle.told.specs.Told.{endingNumbers, encode, EncodesOnce}
-use Rattle.told.specs.declared.Told.{Told}
+use Rattle.told.specs.declared.Encoded.{Encoded}
 
-decode : Told → Reply
+decode : Encoded → Reply
 decode t =
     cond (eqb (t .kind) 0) done
     (cond (eqb (t .kind) 1) (chart (t .first) (t .second))

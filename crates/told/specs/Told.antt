@@ -1,21 +1,20 @@
 -- What a call tells as three numbers: a kind, and two values, 0 where there is none.
 use Prim.Native.Nat.{ℕ}
 use mathlib.Core.Path.{_≡_}
-use Rattle.runner.specs.State.{Ending, valued, notice, spent}
-use Rattle.runner.specs.Calls.{Reply, done, chart, running, ended, ending, wrote, refused}
-use Rattle.told.specs.declared.Told.{Told}
+use Rattle.machine.specs.Run.{Ending, valued, notice, spent}
+use Rattle.runner.specs.Outcomes.{Reply, done, chart, running, ended, ending, wrote, refused}
+use Rattle.told.specs.declared.Encoded.{Encoded}
 
--- Kinds: 0 done; 1 chart (inputs, boxes); 2 running, 3 ended, 5 notice, 6 spent (steps); 4 value (value, steps); 7 refused (number, detail); 8 written
--- (length).
-abbrev pub numbers : (kind first second : ℕ) → Told
+abbrev pub numbers : (kind first second : ℕ) → Encoded
 numbers kind first second = record { kind = kind; first = first; second = second }
 
-unfoldable pub endingNumbers : Ending → ℕ → Told
+unfoldable pub endingNumbers : Ending → ℕ → Encoded
 endingNumbers (valued value) steps = numbers 4 value steps
 endingNumbers notice steps = numbers 5 steps 0
 endingNumbers spent steps = numbers 6 steps 0
 
-unfoldable pub encode : Reply → Told
+-- The kind of each reply, and its values.
+unfoldable pub encode : Reply → Encoded
 encode done = numbers 0 0 0
 encode (chart inputs boxes) = numbers 1 inputs boxes
 encode (running steps) = numbers 2 steps 0

@@ -1,84 +1,86 @@
 // What the runner's calls tell, as three numbers: for callers in other languages, and for tests.
-use begin::Verdict;
-use chart::Written;
+pub mod kinds;
+
+use calls::Verdict;
 use format::Refusal;
 use runner::AdvanceTold;
 use runner::AnswerTold;
 use runner::LoadTold;
+use runner::Written;
 ghost use mathlib.Core.Path.{_≡_};
+ghost use Rattle.runner.specs.Outcomes.{refused};
 ghost use Rattle.runner.specs.Replies.{loadReply, verdictReply, advanceReply, answerReply, writtenReply};
 ghost use Rattle.told.specs.Told.{numbers, encode, EncodesOnce};
 
-// Kinds: 0 done; 1 chart (inputs, boxes); 2 running, 3 ended, 5 notice, 6 spent (steps); 4 value (value, steps); 7 refused (number, detail);
-// 8 written (length). A value that is not used is 0.
-pub struct Told {
+// A kind, one of `kinds`, and its two values.
+pub struct Encoded {
     pub kind: u32,
     pub first: u64,
     pub second: u32,
 }
 
-pub fn make(kind: u32, first: u64, second: u32) -> Told
+pub fn make(kind: u32, first: u64, second: u32) -> Encoded
     ensures { λ r. ⌜ r ≡ numbers kind first second ⌝ }
 {
-    Told {
+    Encoded {
         kind,
         first,
         second,
     }
 }
 
-fn refused(refusal: Refusal) -> Told
-    ensures { λ r. ⌜ r ≡ numbers 7 (refusal .number) (refusal .detail) ⌝ }
+fn of_refusal(refusal: Refusal) -> Encoded
+    ensures { λ r. ⌜ r ≡ encode (refused (refusal .number) (refusal .detail)) ⌝ }
 {
-    make(7, refusal.number as u64, refusal.detail)
+    make(kinds::REFUSED, refusal.number as u64, refusal.detail)
 }
 
-pub fn of_load(told: LoadTold) -> Told
+pub fn of_load(told: LoadTold) -> Encoded
     ensures { λ r. ⌜ r ≡ encode (loadReply told) ⌝ }
 {
     match told {
-        LoadTold::Chart { inputs, boxes } => make(1, inputs as u64, boxes as u32),
-        LoadTold::Refused(refusal) => refused(refusal),
+        LoadTold::Chart { inputs, boxes } => make(kinds::CHART, inputs as u64, boxes as u32),
+        LoadTold::Refused(refusal) => of_refusal(refusal),
     }
 }
 
 // Of a begin or an abandon.
-pub fn of_verdict(told: Verdict) -> Told
+pub fn of_verdict(told: Verdict) -> Encoded
     ensures { λ r. ⌜ r ≡ encode (verdictReply told) ⌝ }
 {
     match told {
-        Verdict::Done => make(0, 0, 0),
-        Verdict::Refused(refusal) => refused(refusal),
+        Verdict::Done => make(kinds::DONE, 0, 0),
+        Verdict::Refused(refusal) => of_refusal(refusal),
     }
 }
 
-pub fn of_advance(told: AdvanceTold) -> Told
+pub fn of_advance(told: AdvanceTold) -> Encoded
     ensures { λ r. ⌜ r ≡ encode (advanceReply told) ⌝ }
 {
     match told {
-        AdvanceTold::Running(steps) => make(2, steps as u64, 0),
-        AdvanceTold::Ended(steps) => make(3, steps as u64, 0),
-        AdvanceTold::Refused(refusal) => refused(refusal),
+        AdvanceTold::Running(steps) => make(kinds::RUNNING, steps as u64, 0),
+        AdvanceTold::Ended(steps) => make(kinds::ENDED, steps as u64, 0),
+        AdvanceTold::Refused(refusal) => of_refusal(refusal),
     }
 }
 
-pub fn of_answer(told: AnswerTold) -> Told
+pub fn of_answer(told: AnswerTold) -> Encoded
     ensures { λ r. ⌜ r ≡ encode (answerReply told) ⌝ }
 {
     match told {
-        AnswerTold::Value { value, steps } => make(4, value as u64, steps),
-        AnswerTold::Notice(steps) => make(5, steps as u64, 0),
-        AnswerTold::Spent(steps) => make(6, steps as u64, 0),
-        AnswerTold::Refused(refusal) => refused(refusal),
+        AnswerTold::Value { value, steps } => make(kinds::VALUE, value as u64, steps),
+        AnswerTold::Notice(steps) => make(kinds::NOTICE, steps as u64, 0),
+        AnswerTold::Spent(steps) => make(kinds::SPENT, steps as u64, 0),
+        AnswerTold::Refused(refusal) => of_refusal(refusal),
     }
 }
 
-pub fn of_written(told: Written) -> Told
+pub fn of_written(told: Written) -> Encoded
     ensures { λ r. ⌜ r ≡ encode (writtenReply told) ⌝ }
 {
     match told {
-        Written::Length(length) => make(8, length as u64, 0),
-        Written::Refused(refusal) => refused(refusal),
+        Written::Length(length) => make(kinds::WRITTEN, length as u64, 0),
+        Written::Refused(refusal) => of_refusal(refusal),
     }
 }
 

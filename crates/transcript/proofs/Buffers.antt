@@ -134,7 +134,8 @@ module _ (r : Runner) (lines : ℕ) (over : Bool) (input out₀ : List ℕ) wher
               ∙ ap (λ (x : List ℕ). line ∷ linesIn over x) (sym (drop-of-length-le left {i = suc i} (omega arith)))
 
       -- The text has room, and so has what is left after it.
-      module _ (k s : ℕ) (part : List ℕ) (e : k ≡ length out - size) (l : 64 ≤ k) (es : s ≡ printedLength text (length (take k (drop size out)))) (ep : part ≡ printed text (take k (drop size out))) (el : length part ≡ k) where
+      module _ (k s : ℕ) (part : List ℕ) (e : k ≡ length out - size) (l : 64 ≤ k) (es : s ≡ printedLength text (length (take k (drop size out))))
+          (ep : part ≡ printed text (take k (drop size out))) (el : length part ≡ k) where
         room-is : length (take k (drop size out)) ≡ k
         room-is = omega (arith, length-take k (drop size out), length-drop size out)
 
@@ -220,7 +221,8 @@ module _ (r : Runner) (lines : ℕ) (over : Bool) (input out₀ : List ℕ) wher
     abbrev answer : List ℕ
     answer = respond r count′ (take (end - at) (drop at input))
 
-    pub turn-done : Feeds out count at size → at < length input → end ≡ at + indexOf 10 (slice at (length input) input) → end ≤ length input → (end ≡ length input → ⊥) ⊎ (over ≡ true)
+    pub turn-done : Feeds out count at size → at < length input → end ≡ at + indexOf 10 (slice at (length input) input)
+        → end ≤ length input → (end ≡ length input → ⊥) ⊎ (over ≡ true)
         → count′ ≡ following count → k ≡ length out - size → 64 ≤ k → s ≡ printedLength answer (length (take k (drop size out)))
         → part ≡ printed answer (take k (drop size out)) → length part ≡ k → Feeds (putMid size k out part) count′ (min (end + 1) (length input)) (size + s)
     unfolding slice at-now text
@@ -313,7 +315,8 @@ module _ (buffer₀ : List ℕ) (at last : ℕ) where
             take-all 256 (take (last - at) (drop at buffer₀)) (omega (arith, length-take (last - at) (drop at buffer₀), h .few)) ∙ ap (λ (n : ℕ). take n (drop at buffer₀)) whole
         by (inr e) = take-take 256 (last - at) (drop at buffer₀) (omega (arith, h .there)) ∙ ap (λ (n : ℕ). take n (drop at buffer₀)) (sym e)
 
-pub kept-all : (buffer₀ : List ℕ) (at end last : ℕ) → last ≡ min end (length buffer₀) → (buffer : List ℕ) (count from : ℕ) → Keeps buffer₀ at last buffer count from → (last ≤ from) ⊎ (count ≡ 256)
+pub kept-all : (buffer₀ : List ℕ) (at end last : ℕ) → last ≡ min end (length buffer₀) → (buffer : List ℕ) (count from : ℕ)
+    → Keeps buffer₀ at last buffer count from → (last ≤ from) ⊎ (count ≡ 256)
     → (count ≡ length (kept (drop at (take end buffer₀)))) × (buffer ≡ kept (drop at (take end buffer₀)) ++ drop count buffer₀)
 kept-all buffer₀ at end last e buffer count from h w =
     let same : take last buffer₀ ≡ take end buffer₀ = ap (λ (n : ℕ). take n buffer₀) e ∙ take-min end buffer₀ in

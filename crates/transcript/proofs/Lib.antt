@@ -2,7 +2,5 @@
 pub mod Lines
 pub mod Alike
 pub mod Portions
-pub mod Sessions
-pub mod Files
 pub mod Buffers
 pub mod States

@@ -60,7 +60,9 @@ unfolding portion
 takes r room count [] l e = refl
 takes r room count (line ∷ lines) l e = by (ltb room 64) refl e
   where
-    by : (t : Bool) → ltb room 64 ≡ t → cond t (none count) (onto line (respond r (following count) line) (portion r (room - length (respond r (following count) line)) (following count) lines)) .taken ≡ 0 → line ∷ lines ≡ []
+    by : (t : Bool) → ltb room 64 ≡ t
+        → (let text = respond r (following count) line in cond t (none count) (onto line text (portion r (room - length text) (following count) lines)) .taken ≡ 0)
+        → line ∷ lines ≡ []
     by true q z = absurd (omega (arith, ltb-true room 64 q))
     by false q z = absurd (omega arith)
 

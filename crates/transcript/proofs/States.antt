@@ -79,7 +79,8 @@ module _ (b : List ℕ) (s : Session) (end at : ℕ) (e : end ≡ min (s .end) (
     unfolding readBy
     read-none z = by got l c
       where
-        by : (g : ℤ) → ltZ g (pos 0) ≡ false → count ≡ clamped g (length (take (length b - end) (drop end b))) → stateOf (record { count = s .count; at = at; end = end; over = true }) b ≡ readBy g (drop (s .end) b) (stateOf s b)
+        by : (g : ℤ) → ltZ g (pos 0) ≡ false → count ≡ clamped g (length (take (length b - end) (drop end b)))
+            → stateOf (record { count = s .count; at = at; end = end; over = true }) b ≡ readBy g (drop (s .end) b) (stateOf s b)
         by (pos k) q w = none count k w z
         by (negsuc k) q w = absurd (false≢true (sym q))
 
@@ -87,7 +88,8 @@ module _ (b : List ℕ) (s : Session) (end at : ℕ) (e : end ≡ min (s .end) (
     unfolding readBy
     read-some z = by got l c
       where
-        by : (g : ℤ) → ltZ g (pos 0) ≡ false → count ≡ clamped g (length (take (length b - end) (drop end b))) → stateOf (record { count = s .count; at = at; end = end + count; over = s .over }) b ≡ readBy g (drop (s .end) b) (stateOf s b)
+        by : (g : ℤ) → ltZ g (pos 0) ≡ false → count ≡ clamped g (length (take (length b - end) (drop end b)))
+            → stateOf (record { count = s .count; at = at; end = end + count; over = s .over }) b ≡ readBy g (drop (s .end) b) (stateOf s b)
         by (pos k) q w = some count k w z
         by (negsuc k) q w = absurd (false≢true (sym q))
 

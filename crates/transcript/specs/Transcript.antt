@@ -14,8 +14,8 @@ answers r count [] = []
 answers r count (line ∷ lines) = respond r (count + 1) line ++ answers r (count + 1) lines
 
 -- The text for a chart file, whether it is accepted, and the runner that holds it.
-abbrev pub greeting : List ℕ → List ℕ
-greeting file = replyText (loaded file newRunner .told .reply)
+abbrev pub chartLine : List ℕ → List ℕ
+chartLine file = replyText (loaded file newRunner .told .reply)
 
 abbrev pub isChart : List ℕ → Bool
 isChart file = accepted (loaded file newRunner .told .reply)
@@ -25,4 +25,4 @@ holder file = loaded file newRunner .next
 
 -- The transcript of a chart file and an input. "A refused chart prints its refusal and ends."
 unfoldable pub transcript : (file input : List ℕ) → List ℕ
-transcript file input = greeting file ++ cond (isChart file) (answers (holder file) 0 (linesOf input)) []
+transcript file input = chartLine file ++ cond (isChart file) (answers (holder file) 0 (linesOf input)) []

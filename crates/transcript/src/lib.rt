@@ -7,7 +7,6 @@ ghost use Prim.Native.Nat.{_≤_, min};
 ghost use lib.ListN.{length, take, drop};
 ghost use Rattle.io.specs.Counts.{Counts};
 ghost use Rattle.transcript.specs.Session.{feed, fedOf, kept, turn, stateOf, turnOf, readBy};
-ghost use Rattle.transcript.specs.Claims.{WritesTranscript, AnswersFirst, BeginsTranscript, WritesEnd, FirstBytes};
 
 // The number of lines so far, how many bytes of input were taken, and the length of the text.
 pub struct Fed {
@@ -176,8 +175,3 @@ pub fn received(session: Session, got: isize, buffer: &[u8]) -> Session
         over,
     }
 }
-
-// The claims of the run program, which this contract holds.
-pub fn promised()
-    ensures { λ _. ⌜ WritesTranscript × AnswersFirst × BeginsTranscript × WritesEnd × FirstBytes ⌝ }
-{}

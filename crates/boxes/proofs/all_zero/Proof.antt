@@ -29,10 +29,14 @@ loop-less : tie.Need-loop-less Inv-loop μ-loop
 loop-less c = search needs
 
 loop-again : tie.Need-loop-again Inv-loop μ-loop
-loop-again c = (search needs, zeros-more (now (c .before .before .before .args .bytes)) (c .before .before .loop .i) (c .before .before .loop .clear) (c .before .loop-test .taken) (c .before .before .loop .inv .1))
+loop-again c =
+    let l = c .before .before .loop in
+    (search needs, zeros-more (now (c .before .before .before .args .bytes)) (l .i) (l .clear) (c .before .loop-test .taken) (l .inv .1))
 
 returns : tie.Need-returns Inv-loop μ-loop
-returns c = zeros-end (now (c .before .before .args .bytes)) (c .before .loop .i) (c .before .loop .clear) (c .loop-test .left) (c .before .loop .inv .1)
+returns c =
+    let l = c .before .loop in
+    zeros-end (now (c .before .before .args .bytes)) (l .i) (l .clear) (c .loop-test .left) (l .inv .1)
 
 pub all-zero-spec : {M : Type 1} → statement M
 all-zero-spec =

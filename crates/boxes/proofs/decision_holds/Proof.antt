@@ -45,7 +45,7 @@ all-zero-requires c κs = search needs
 
 returns : tie.Need-returns
 unfolding decisionRule
-returns c = cc
+returns c = rw (c .all-zero .ensures, c .before .before .before .before .can-read2 .ensures, c .before .before .before .before .before .before .can-read .ensures)
 
 pub decision-holds-spec : {M : Type 1} → statement M
 decision-holds-spec =

@@ -21,7 +21,7 @@ all-zero-requires c κs = search needs
 
 returns : tie.Need-returns
 unfolding haltRule
-returns c = cc
+returns c = rw (c .all-zero .ensures)
 
 pub halt-holds-spec : {M : Type 1} → statement M
 halt-holds-spec =

@@ -23,7 +23,9 @@ decision-holds-requires c κs = search needs
 returns-3 : tie.Need-returns-3
 unfolding wellFormed
 returns-3 c =
-    rw (eq-eqb _ _ (c .before .before .before .before .if1 .left), sym (c .before .before .before .assignment-holds .ensures) ∙ c .before .before .if2 .left, sym (c .before .decision-holds .ensures) ∙ c .if3 .taken)
+    let ten = eq-eqb _ _ (c .before .before .before .before .if1 .left) in
+    let assignment = sym (c .before .before .before .assignment-holds .ensures) ∙ c .before .before .if2 .left in
+    rw (ten, assignment, sym (c .before .decision-holds .ensures) ∙ c .if3 .taken)
 
 halt-holds-requires : tie.Need-halt-holds-requires
 halt-holds-requires c κs = search needs
@@ -31,7 +33,10 @@ halt-holds-requires c κs = search needs
 returns-4 : tie.Need-returns-4
 unfolding wellFormed
 returns-4 c =
-    rw (eq-eqb _ _ (c .before .before .before .before .before .if1 .left), sym (c .before .before .before .before .assignment-holds .ensures) ∙ c .before .before .before .if2 .left, sym (c .before .before .decision-holds .ensures) ∙ c .before .if3 .left) (c .halt-holds .ensures)
+    let ten = eq-eqb _ _ (c .before .before .before .before .before .if1 .left) in
+    let assignment = sym (c .before .before .before .before .assignment-holds .ensures) ∙ c .before .before .before .if2 .left in
+    let decision = sym (c .before .before .decision-holds .ensures) ∙ c .before .if3 .left in
+    rw (ten, assignment, decision) (c .halt-holds .ensures)
 
 pub well-formed-spec : {M : Type 1} → statement M
 well-formed-spec =

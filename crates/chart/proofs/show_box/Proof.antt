@@ -2,9 +2,9 @@
 use mathlib.Core.Path.{_≡_, refl, sym, _∙_}
 use native.Mathlib.Omega.{arith}
 use denote.Ref.{now}
-use Rattle.format.specs.File.{placeStart, checkFile}
+use Rattle.format.specs.File.{checkFile}
 use Rattle.format.specs.declared.Checked.the-variants.{Accepted}
-use Rattle.format.proofs.Places.{part-to}
+use Rattle.format.proofs.Places.{place-to}
 use Rattle.chart.proofs.Shows.{shown-within, shows-box, shows-none, shows-refused}
 use borrow.Author.Needs.{needs}
 use Rattle.chart.proofs.show_box.Statement.{statement}
@@ -20,20 +20,11 @@ check-file-requires c κs = search needs
 enum-known-checked : tie.Need-enum-known-checked
 enum-known-checked c = search needs
 
-to-usize-requires : tie.Need-to-usize-requires
-to-usize-requires c κs = search needs
+to-u32-requires : tie.Need-to-u32-requires
+to-u32-requires c κs = search needs
 
-add-start : tie.Need-add-start
-add-start c = search needs
-
-mul-start : tie.Need-mul-start
-mul-start c = search needs
-
-mul-start-2 : tie.Need-mul-start-2
-mul-start-2 c = search needs
-
-add-start-2 : tie.Need-add-start-2
-add-start-2 c = search needs
+place-start-requires : tie.Need-place-start-requires
+place-start-requires c κs = search needs
 
 add-end : tie.Need-add-end
 add-end c = search needs
@@ -46,15 +37,16 @@ part-result-start c = search needs
 
 part-result-end : tie.Need-part-result-end
 part-result-end c =
-    let a = c .before .before .before .before .before .before .before .args in
-    let w = shown-within (now (a .file)) (a .number) _ (is-chart (c .before .before .before)) (omega arith) in
+    let a = c .before .before .before .before .before .before .before .before .args in
+    let w = shown-within (now (a .file)) (a .number) _ (is-chart (c .before .before .before .before)) (omega arith) in
     search needs
 
 returns : tie.Need-returns
 returns c =
-    let a = c .before .before .before .before .before .before .before .before .args in
-    rw (shows-box (now (a .file)) (a .number) _ (is-chart (c .before .before .before .before)) (omega arith))
-    (part-to (now (a .file)) (placeStart (a .number)) 10, refl)
+    let a = c .before .before .before .before .before .before .before .before .before .args in
+    let start = c .before .place-start .ensures in
+    rw (shows-box (now (a .file)) (a .number) _ (is-chart (c .before .before .before .before .before)) (omega arith))
+    (place-to (now (a .file)) _ (a .number) start, rw start)
 
 sub-result-2 : tie.Need-sub-result-2
 sub-result-2 c = search needs
@@ -93,11 +85,8 @@ show-box-spec =
     (tie.spec
     check-file-requires
     enum-known-checked
-    to-usize-requires
-    add-start
-    mul-start
-    mul-start-2
-    add-start-2
+    to-u32-requires
+    place-start-requires
     add-end
     sub-result
     part-result-start

@@ -9,23 +9,31 @@ use borrow.Author.Needs.{needs}
 use borrow.Rule.Slice.PartMut.{putMid}
 use denote.Ref.{now}
 use Rattle.format.specs.Block.{seal}
+use Rattle.format.specs.File.{blocksFor}
 use Rattle.format.specs.declared.Header.{Header}
 use Rattle.chart.specs.Chart.{joined, bodyOf, fileOf}
+use Rattle.chart.specs.WriteBack.{withFile}
 use Rattle.chart.proofs.Joined.{Sized, joined-rest, put-piece}
 use Rattle.chart.proofs.Blocks.{length-seal, length-body}
 use Rattle.chart.proofs.write_file.Statement.{statement}
 use Rattle.chart.proofs.write_file.Tie as tie
 
 abbrev Inv-loop : tie.InvT-loop
-Inv-loop header table blocks buf₀ j₀ buf j =
-    (j ≤ blocks) × (length buf ≡ length buf₀) × (buf ≡ joined (λ i. seal (bodyOf header table i)) j ++ drop (512 * j) buf₀)
+Inv-loop header table buf₀ blocks j₀ buf j =
+    (blocks ≡ blocksFor (header .boxes))
+    × (j ≤ blocks)
+    × (length buf ≡ length buf₀)
+    × (buf ≡ joined (λ i. seal (bodyOf header table i)) j ++ drop (512 * j) buf₀)
 
 abbrev μ-loop : tie.MeasureT-loop
-μ-loop header table blocks buf₀ j₀ buf j = blocks - j
+μ-loop header table buf₀ blocks j₀ buf j = blocks - j
 
 -- The first five blocks are 512 bytes each.
 sized : (h : Header) (table : List ℕ) (count : ℕ) → length table ≡ 2040 → count ≤ 5 → Sized (λ i. seal (bodyOf h table i)) 512 count
 sized h table count l q i p = length-seal _ (length-body h table i l (omega arith))
+
+blocks-for-requires : tie.Need-blocks-for-requires Inv-loop μ-loop
+blocks-for-requires c κs = search needs
 
 loop-holds : tie.Need-loop-holds Inv-loop μ-loop
 unfolding joined
@@ -54,7 +62,7 @@ loop-less c = search needs
 
 loop-again : tie.Need-loop-again Inv-loop μ-loop
 loop-again c =
-    let a = c .before .before .before .before .before .before .before .before .args in
+    let a = c .before .before .before .before .before .before .before .before .before .args in
     let l = c .before .before .before .before .before .loop in
     let buf = now (a .buf) in
     let piece : ℕ → List ℕ = λ i. seal (bodyOf (a .header) (now (a .table)) i) in
@@ -62,22 +70,20 @@ loop-again c =
     let left = length (l .buf) - 512 * l .j in
     let up : 512 * l .j + 512 ≡ 512 * (l .j + 1) = omega arith in
     let next = ap (putMid (512 * l .j) left (l .buf)) (c .before .before .write-nth .ensures)
-    ∙ put-piece piece 512 (l .j) left (l .buf) (drop (512 * l .j) buf) size (omega (arith, length-drop (512 * l .j) buf)) (l .inv .2)
+    ∙ put-piece piece 512 (l .j) left (l .buf) (drop (512 * l .j) buf) size (omega (arith, length-drop (512 * l .j) buf)) (l .inv .3)
     ∙ ap (λ (r : List ℕ). joined piece (l .j + 1) ++ r) (drop-drop 512 (512 * l .j) buf ∙ ap (λ (n : ℕ). drop n buf) up) in
-    (search needs, joined-rest piece 512 (l .j + 1) _ _ size next ∙ omega (arith, length-drop (512 * (l .j + 1)) buf), next)
+    (search needs, search needs, joined-rest piece 512 (l .j + 1) _ _ size next ∙ omega (arith, length-drop (512 * (l .j + 1)) buf), next)
 
 same-length : tie.Need-same-length Inv-loop μ-loop
 same-length c = search needs
 
 returns : tie.Need-returns Inv-loop μ-loop
-unfolding fileOf
+unfolding withFile fileOf
 returns c =
-    let a = c .before .before .before .before .args in
+    let a = c .before .before .before .before .before .args in
     let l = c .before .loop in
-    let all : l .j ≡ a .blocks = omega arith in
-    l .inv .2
-    ∙ rw (all)
-    (ap (λ (n : ℕ). joined (λ i. seal (bodyOf (a .header) (now (a .table)) i)) n ++ drop (512 * a .blocks) (now (a .buf))) (c .before .before .before .before .pre .1))
+    let all : l .j ≡ blocksFor (a .header .boxes) = omega arith in
+    l .inv .3 ∙ ap (λ (n : ℕ). joined (λ i. seal (bodyOf (a .header) (now (a .table)) i)) n ++ drop (512 * n) (now (a .buf))) all
 
 pub write-file-spec : {M : Type 1} → statement M
 write-file-spec =
@@ -85,6 +91,7 @@ write-file-spec =
     (tie.spec
     Inv-loop
     μ-loop
+    blocks-for-requires
     loop-holds
     mul-at
     sub-write-nth

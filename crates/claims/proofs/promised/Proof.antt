@@ -1,7 +1,7 @@
 -- `promised` holds the claims of this crate: each by its theorem.
 use Rattle.claims.proofs.Demand3.{demand3}
 use Rattle.claims.proofs.OneFile.{one-file}
-use Rattle.claims.proofs.RunLaws.{refusal-changes-nothing, advances-join, no-operation-stops, counts-boxes, limit-ends, within-limit, cleared}
+use Rattle.claims.proofs.RunLaws.{refusal-changes-nothing, advances-join, no-operation-stops, counts-boxes, limit-ends, tells-whole-run, within-limit, cleared}
 use Rattle.claims.proofs.ChartLaws.{held-obeys, runs-in-range, ends-in-range, loaded-is-written, written-is-loaded}
 use Rattle.claims.proofs.Replies.{replies-distinct}
 use Rattle.claims.proofs.Bounds.{answers-at-the-limit, runs-within-bounds, written-into-exact-room, held-within-bounds, states-within-bounds}
@@ -17,6 +17,7 @@ returns c = (
   no-operation-stops,
   counts-boxes,
   limit-ends,
+  tells-whole-run,
   within-limit,
   cleared,
   held-obeys,

@@ -46,7 +46,9 @@ size-is c = c .blocks-for .ensures .0 ∙ ap (λ (h : Header). blocksFor (h .box
 five : (c : tie.Else5) → let f = now (c .before .before .before .before .before .before .before .before .before .before .before .before .args .file) in blocks f ≡ blocksFor (at f 6)
 five c = c .if5 .left ∙ size-is (c .before)
 
-broken-is : (c : tie.After-first-broken) → c .first-broken .result ≡ broken (now (c .before .before .before .before .before .before .before .before .before .before .before .before .before .args .file))
+broken-is : (c : tie.After-first-broken)
+    → let f = now (c .before .before .before .before .before .before .before .before .before .before .before .before .before .args .file) in
+    c .first-broken .result ≡ broken f
 broken-is c =
     let f = now (c .before .before .before .before .before .before .before .before .before .before .before .before .before .args .file) in
     c .first-broken .ensures ∙ ap (λ (h : Header). firstFailing (placeRule f (h .inputs) (h .boxes)) (places f)) (c .before .before .before .header-of .ensures)
@@ -82,7 +84,9 @@ refuse-requires-3 : tie.Need-refuse-requires-3
 refuse-requires-3 c κs = search needs
 
 returns-3 : tie.Need-returns-3
-returns-3 c = c .refuse3 .ensures ∙ tells-letters _ (one (c .before .before .before .before .before)) (two (c .before .before .before)) (sym (c .before .before .letters-hold .ensures) ∙ not-true _ (c .before .if3 .taken))
+returns-3 c =
+    let wrong = sym (c .before .before .letters-hold .ensures) ∙ not-true _ (c .before .if3 .taken) in
+    c .refuse3 .ensures ∙ tells-letters _ (one (c .before .before .before .before .before)) (two (c .before .before .before)) wrong
 
 header-holds-requires : tie.Need-header-holds-requires
 header-holds-requires c κs = let b = whole (c .before .before .before .before) in search needs
@@ -91,7 +95,10 @@ refuse-requires-4 : tie.Need-refuse-requires-4
 refuse-requires-4 c κs = search needs
 
 returns-4 : tie.Need-returns-4
-returns-4 c = c .refuse4 .ensures ∙ tells-header _ (one (c .before .before .before .before .before .before .before)) (two (c .before .before .before .before .before)) (three (c .before .before .before)) (sym (c .before .before .header-holds .ensures) ∙ not-true _ (c .before .if4 .taken))
+returns-4 c =
+    let else3 = c .before .before .before in
+    let wrong = sym (c .before .before .header-holds .ensures) ∙ not-true _ (c .before .if4 .taken) in
+    c .refuse4 .ensures ∙ tells-header _ (one (else3 .before .before .before .before)) (two (else3 .before .before)) (three else3) wrong
 
 header-of-requires : tie.Need-header-of-requires
 header-of-requires c κs = let b = whole (c .before .before .before .before .before .before) in search needs
@@ -124,10 +131,13 @@ returns-6 : tie.Need-returns-6
 returns-6 c =
     c .refuse6 .ensures
     ∙ ap (λ (n : ℕ). Refused (refusal 6 n)) (broken-is (c .before .before))
-    ∙ tells-place _ (past (c .before .before .before .before .before .before)) (five (c .before .before .before)) (omega (arith, broken-is (c .before .before), c .before .if6 .taken))
+    ∙ tells-place _ (past (c .before .before .before .before .before .before)) (five (c .before .before .before))
+    (omega (arith, broken-is (c .before .before), c .before .if6 .taken))
 
 returns-7 : tie.Need-returns-7
-returns-7 c = ap Accepted (c .before .before .before .before .header-of .ensures) ∙ tells-chart _ (past (c .before .before .before .before .before)) (five (c .before .before)) (omega (arith, broken-is (c .before), c .if6 .left))
+returns-7 c =
+    ap Accepted (c .before .before .before .before .header-of .ensures)
+    ∙ tells-chart _ (past (c .before .before .before .before .before)) (five (c .before .before)) (omega (arith, broken-is (c .before), c .if6 .left))
 
 pub check-file-spec : {M : Type 1} → statement M
 check-file-spec =

@@ -5,23 +5,17 @@ use borrow.Author.Tests.{lt-ltb, le-ltb}
 use denote.Ref.{now}
 use Rattle.boxes.specs.Bytes.{allZero}
 use Rattle.boxes.specs.Box.{wellFormed}
-use Rattle.format.specs.File.{placeStart, placeRule}
-use Rattle.format.proofs.Places.{part-to}
+use Rattle.format.specs.File.{placeRule}
+use Rattle.format.proofs.Places.{place-to}
 use borrow.Author.Needs.{needs}
 use Rattle.format.proofs.place_holds.Statement.{statement}
 use Rattle.format.proofs.place_holds.Tie as tie
 
-add-start : tie.Need-add-start
-add-start c = search needs
+cast-place-start : tie.Need-cast-place-start
+cast-place-start c = search needs
 
-mul-start : tie.Need-mul-start
-mul-start c = search needs
-
-mul-start-2 : tie.Need-mul-start-2
-mul-start-2 c = search needs
-
-add-start-2 : tie.Need-add-start-2
-add-start-2 c = search needs
+place-start-requires : tie.Need-place-start-requires
+place-start-requires c κs = search needs
 
 add-end : tie.Need-add-end
 add-end c = search needs
@@ -44,8 +38,9 @@ well-formed-requires c κs = search needs
 returns : tie.Need-returns
 unfolding placeRule
 returns c =
-    let a = c .before .before .before .before .before .args in
-    rw (lt-ltb (a .p) (a .n) (omega arith)) (c .well-formed .ensures ∙ ap (wellFormed (a .k) (a .n)) (part-to (now (a .file)) (placeStart (a .p)) 10))
+    let a = c .before .before .before .before .before .before .args in
+    let place = place-to (now (a .file)) _ (a .p) (c .before .before .before .before .place-start .ensures) in
+    rw (lt-ltb (a .p) (a .n) (omega arith)) (c .well-formed .ensures ∙ ap (wellFormed (a .k) (a .n)) place)
 
 all-zero-requires : tie.Need-all-zero-requires
 all-zero-requires c κs = search needs
@@ -53,17 +48,16 @@ all-zero-requires c κs = search needs
 returns-2 : tie.Need-returns-2
 unfolding placeRule
 returns-2 c =
-    let a = c .before .before .before .before .before .args in
-    rw (le-ltb (a .p) (a .n) (omega arith)) (c .all-zero .ensures ∙ ap allZero (part-to (now (a .file)) (placeStart (a .p)) 10))
+    let a = c .before .before .before .before .before .before .args in
+    let place = place-to (now (a .file)) _ (a .p) (c .before .before .before .before .place-start .ensures) in
+    rw (le-ltb (a .p) (a .n) (omega arith)) (c .all-zero .ensures ∙ ap allZero place)
 
 pub place-holds-spec : {M : Type 1} → statement M
 place-holds-spec =
     tie.close
     (tie.spec
-    add-start
-    mul-start
-    mul-start-2
-    add-start-2
+    cast-place-start
+    place-start-requires
     add-end
     sub-place
     part-place-start

@@ -15,7 +15,7 @@ use Rattle.reply.proofs.respond.Tie as tie
 read-some : (c : tie.After-numbers2) → parse (now (c .before .before .before .before .before .before .args .text)) .count ≡ 0 → ⊥
 read-some c z = c .before .before .if1 .left (ap (λ (n : Numbers). n .count) (c .before .before .before .parse .ensures) ∙ z)
 
-range : (c : tie.After-numbers2) → (3 ≤ c .before .before .before .parse .result .count) × (c .before .before .before .parse .result .count ≤ length (c .before .before .before .parse .result .numbers))
+range : (c : tie.After-numbers2) → let read = c .before .before .before .parse .result in (3 ≤ read .count) × (read .count ≤ length (read .numbers))
 range c =
     let line = now (c .before .before .before .before .before .before .args .text) in
     let some = some-numbers line (read-some c) in
@@ -95,12 +95,15 @@ same-length-2 c = search needs
 returns-2 : tie.Need-returns-2
 returns-2 c =
     let p = c .before .before .print-answer in
-    let a = c .before .before .before .before .before .before .before .before .before .before .before .before .before .before .before .before .before .before .args in
-    let read = c .before .before .before .before .before .before .before .before .before .before .before .before .before .before .before .parse in
-    let begun = c .before .before .before .before .before .before .before .before .before .before .begin in
+    let told-so = c .before .before .before .before .before .before .before .before in
+    let some = told-so .before .before .before .before .before .before in
+    let a = some .before .before .before .before .args in
+    let read = some .before .parse in
+    let begun = told-so .before .before .begin in
     let advanced = c .before .before .before .before .before .before .advance in
     let told = c .before .before .before .before .answer in
-    runs (a .runner) (a .number) (now (a .text)) (read .result) (read .ensures) (p .result) (now (a .out)) _ (c .before .before .before .before .before .before .before .before .before .before .before .before .before .before .if1 .left) (begun .result .told) (begun .result .runner) (begun .ensures) (c .before .before .before .before .before .before .before .before .enum-told .given .1)
+    runs (a .runner) (a .number) (now (a .text)) (read .result) (read .ensures) (p .result) (now (a .out)) _ (some .if1 .left)
+    (begun .result .told) (begun .result .runner) (begun .ensures) (told-so .enum-told .given .1)
     (advanced .result .told) (advanced .result .runner) (advanced .ensures) (told .result) (told .ensures) (p .ensures)
 
 same-length-3 : tie.Need-same-length-3
@@ -109,10 +112,13 @@ same-length-3 c = search needs
 returns-3 : tie.Need-returns-3
 returns-3 c =
     let p = c .before .before .print-refused2 in
-    let a = c .before .before .before .before .before .before .before .before .before .before .before .before .before .before .before .before .args in
-    let read = c .before .before .before .before .before .before .before .before .before .before .before .before .before .parse in
-    let begun = c .before .before .before .before .before .before .before .before .begin in
-    refuses (a .runner) (a .number) (now (a .text)) (read .result) (read .ensures) (p .result) (now (a .out)) _ (c .before .before .before .before .before .before .before .before .before .before .before .before .if1 .left) (begun .result .told) (begun .result .runner) (begun .ensures) _ (c .before .before .before .before .before .before .told .given .1) (p .ensures)
+    let told-so = c .before .before .before .before .before .before in
+    let some = told-so .before .before .before .before .before .before in
+    let a = some .before .before .before .before .args in
+    let read = some .before .parse in
+    let begun = told-so .before .before .begin in
+    refuses (a .runner) (a .number) (now (a .text)) (read .result) (read .ensures) (p .result) (now (a .out)) _ (some .if1 .left)
+    (begun .result .told) (begun .result .runner) (begun .ensures) _ (told-so .told .given .1) (p .ensures)
 
 pub respond-spec : {M : Type 1} → statement M
 respond-spec =

@@ -3,7 +3,7 @@ use mathlib.Core.Path.{refl, ap}
 use borrow.Author.Needs.{needs}
 use borrow.Author.Tests.{ne-eqb}
 use Rattle.format.specs.declared.Refusal.{Refusal}
-use Rattle.runner.specs.Calls.{turnedAway}
+use Rattle.runner.specs.Outcomes.{turnedAway}
 use Rattle.runner.specs.Replies.{advanceReply}
 use Rattle.runner.proofs.tell.Statement.{statement}
 use Rattle.runner.proofs.tell.Tie as tie

@@ -40,7 +40,9 @@ returns-2 c =
     let a = c .before .before .before .before .before .before .before .before .before .before .before .before .args in
     let put = c .before .before .before .before .before .before .put-clause in
     let rest = c .before .before .put-sentence in
-    long-front (now (a .word)) (now (a .second)) (now (a .out)) (put .last .1 .1 .0) _ (a .n) (a .m) (put .result) (length (put .last .1 .1 .0) - put .result) (rest .result) (c .before .before .before .before .before .before .before .before .if1 .left) (put .ensures .0) (put .ensures .1 .1) refl (rest .ensures .0) (rest .ensures .1 .1)
+    let room = c .before .before .before .before .before .before .before .before .if1 .left in
+    long-front (now (a .word)) (now (a .second)) (now (a .out)) (put .last .1 .1 .0) _ (a .n) (a .m) (put .result) (length (put .last .1 .1 .0) - put .result)
+    (rest .result) room (put .ensures .0) (put .ensures .1 .1) refl (rest .ensures .0) (rest .ensures .1 .1)
 
 pub print-long-sentence-spec : {M : Type 1} → statement M
 print-long-sentence-spec =

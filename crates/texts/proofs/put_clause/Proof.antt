@@ -66,7 +66,8 @@ returns c =
     let spelled : ds ≡ decimal (a .n) = d .decimal .ensures .1 .1 ∙ decimal-is (d .decimal .result) 20 (a .n) (few d) (d .decimal .ensures .1 .0) in
     let first = copied w (now (a .out)) (copy .last .1 .0) (length w) (copy .ensures .1) refl in
     let second = copied ds _ (c .before .before .copy2 .last .1 .0) (length ds) (c .before .before .copy2 .ensures .1) refl in
-    clause-front w ds (now (a .out)) (copy .last .1 .0) _ (a .n) (copy .result) (length (copy .last .1 .0) - copy .result) (d .decimal .result) spelled first (copy .ensures .0) refl second (d .decimal .ensures .0 .1) (few d)
+    clause-front w ds (now (a .out)) (copy .last .1 .0) _ (a .n) (copy .result) (length (copy .last .1 .0) - copy .result) (d .decimal .result)
+    spelled first (copy .ensures .0) refl second (d .decimal .ensures .0 .1) (few d)
 
 pub put-clause-spec : {M : Type 1} → statement M
 put-clause-spec =

@@ -26,8 +26,8 @@ make-requires-2 c κs = search needs
 enum-known-told-3 : tie.Need-enum-known-told-3
 enum-known-told-3 c = search needs
 
-refused-requires : tie.Need-refused-requires
-refused-requires c κs = search needs
+of-refusal-requires : tie.Need-of-refusal-requires
+of-refusal-requires c κs = search needs
 
 returns : tie.Need-returns
 unfolding encode advanceReply
@@ -39,7 +39,7 @@ returns-2 c = rw (c .before .before .told2 .given .1) (c .make2 .ensures)
 
 returns-3 : tie.Need-returns-3
 unfolding encode advanceReply
-returns-3 c = rw (c .before .before .told3 .given .1) (c .refused .ensures)
+returns-3 c = rw (c .before .before .told3 .given .1) (c .of-refusal .ensures)
 
 pub of-advance-spec : {M : Type 1} → statement M
 of-advance-spec =
@@ -52,7 +52,7 @@ of-advance-spec =
     cast-make-2
     make-requires-2
     enum-known-told-3
-    refused-requires
+    of-refusal-requires
     returns
     returns-2
     returns-3)

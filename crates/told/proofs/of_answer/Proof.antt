@@ -35,8 +35,8 @@ make-requires-3 c κs = search needs
 enum-known-told-4 : tie.Need-enum-known-told-4
 enum-known-told-4 c = search needs
 
-refused-requires : tie.Need-refused-requires
-refused-requires c κs = search needs
+of-refusal-requires : tie.Need-of-refusal-requires
+of-refusal-requires c κs = search needs
 
 returns : tie.Need-returns
 unfolding encode answerReply endingNumbers
@@ -52,7 +52,7 @@ returns-3 c = rw (c .before .before .told3 .given .1) (c .make3 .ensures)
 
 returns-4 : tie.Need-returns-4
 unfolding encode answerReply endingNumbers
-returns-4 c = rw (c .before .before .told4 .given .1) (c .refused .ensures)
+returns-4 c = rw (c .before .before .told4 .given .1) (c .of-refusal .ensures)
 
 pub of-answer-spec : {M : Type 1} → statement M
 of-answer-spec =
@@ -68,7 +68,7 @@ of-answer-spec =
     cast-make-3
     make-requires-3
     enum-known-told-4
-    refused-requires
+    of-refusal-requires
     returns
     returns-2
     returns-3

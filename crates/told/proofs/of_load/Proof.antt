@@ -20,8 +20,8 @@ make-requires c κs = search needs
 enum-known-told-2 : tie.Need-enum-known-told-2
 enum-known-told-2 c = search needs
 
-refused-requires : tie.Need-refused-requires
-refused-requires c κs = search needs
+of-refusal-requires : tie.Need-of-refusal-requires
+of-refusal-requires c κs = search needs
 
 returns : tie.Need-returns
 unfolding encode loadReply
@@ -29,7 +29,7 @@ returns c = rw (c .before .before .told .given .1) (c .make .ensures)
 
 returns-2 : tie.Need-returns-2
 unfolding encode loadReply
-returns-2 c = rw (c .before .before .told2 .given .1) (c .refused .ensures)
+returns-2 c = rw (c .before .before .told2 .given .1) (c .of-refusal .ensures)
 
 pub of-load-spec : {M : Type 1} → statement M
 of-load-spec =
@@ -40,6 +40,6 @@ of-load-spec =
     cast-make-2
     make-requires
     enum-known-told-2
-    refused-requires
+    of-refusal-requires
     returns
     returns-2)

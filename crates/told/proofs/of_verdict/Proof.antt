@@ -14,8 +14,8 @@ make-requires c κs = search needs
 enum-known-told : tie.Need-enum-known-told
 enum-known-told c = search needs
 
-refused-requires : tie.Need-refused-requires
-refused-requires c κs = search needs
+of-refusal-requires : tie.Need-of-refusal-requires
+of-refusal-requires c κs = search needs
 
 returns : tie.Need-returns
 unfolding encode verdictReply
@@ -23,8 +23,8 @@ returns c = rw (c .before .enum-told .given .1) (c .make .ensures)
 
 returns-2 : tie.Need-returns-2
 unfolding encode verdictReply
-returns-2 c = rw (c .before .before .told .given .1) (c .refused .ensures)
+returns-2 c = rw (c .before .before .told .given .1) (c .of-refusal .ensures)
 
 pub of-verdict-spec : {M : Type 1} → statement M
 of-verdict-spec =
-    tie.close (tie.spec enum-told make-requires enum-known-told refused-requires returns returns-2)
+    tie.close (tie.spec enum-told make-requires enum-known-told of-refusal-requires returns returns-2)

@@ -14,8 +14,8 @@ make-requires c κs = search needs
 enum-known-told-2 : tie.Need-enum-known-told-2
 enum-known-told-2 c = search needs
 
-refused-requires : tie.Need-refused-requires
-refused-requires c κs = search needs
+of-refusal-requires : tie.Need-of-refusal-requires
+of-refusal-requires c κs = search needs
 
 returns : tie.Need-returns
 unfolding encode writtenReply
@@ -23,9 +23,9 @@ returns c = rw (c .before .before .told .given .1) (c .make .ensures)
 
 returns-2 : tie.Need-returns-2
 unfolding encode writtenReply
-returns-2 c = rw (c .before .before .told2 .given .1) (c .refused .ensures)
+returns-2 c = rw (c .before .before .told2 .given .1) (c .of-refusal .ensures)
 
 pub of-written-spec : {M : Type 1} → statement M
 of-written-spec =
     tie.close
-    (tie.spec enum-known-told make-requires enum-known-told-2 refused-requires returns returns-2)
+    (tie.spec enum-known-told make-requires enum-known-told-2 of-refusal-requires returns returns-2)

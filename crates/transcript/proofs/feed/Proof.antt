@@ -20,26 +20,34 @@ abbrev μ-loop : tie.MeasureT-loop
 μ-loop runner lines over input out₀ count₀ at₀ size₀ out count at size = length input - at
 
 -- A line that is answered has ended, or the input is over.
-way : (c : tie.Joined1 Inv-loop μ-loop) → (c .before .find .result ≡ length (now (c .before .before .before .before .before .before .args .input)) → ⊥) ⊎ (c .before .before .before .before .before .before .args .over ≡ true)
+way : (c : tie.Joined1 Inv-loop μ-loop) → let a = c .before .before .before .before .before .before .args in
+    (c .before .find .result ≡ length (now (a .input)) → ⊥) ⊎ (a .over ≡ true)
 way c = ⊎-elim (λ w. inr (not-false _ (w .1 .left))) (λ w. inl (w .left)) (c .if1 .came)
 
 -- A turn of the loop, up to its store.
-done : (c : tie.After-slice-known2 Inv-loop μ-loop) (at : ℕ)
-    → at ≡ min (c .before .before .before .before .before .before .before .before .find .result + 1) (length (now (c .before .before .before .before .before .before .before .before .before .before .before .before .before .args .input)))
-    → let a = c .before .before .before .before .before .before .before .before .before .before .before .before .before .args in
-    let l = c .before .before .before .before .before .before .before .before .before .before .loop in
-    let text = c .before .before .respond in
-    Feeds (a .runner) (a .lines) (a .over) (now (a .input)) (now (a .out)) (putMid (l .length) (length (l .out) - l .length) (l .out) (text .last .1 .1 .1 .0)) (c .before .before .before .before .before .wrapping-add-u64 .result) at (l .length + text .result)
+done : (c : tie.After-slice-known2 Inv-loop μ-loop) (at : ℕ) → let text = c .before .before .respond in
+    let counted = c .before .before .before .before .before in
+    let found = counted .before .before .before in
+    let l = found .before .before .loop in
+    let a = found .before .before .before .before .before .args in
+    at ≡ min (found .find .result + 1) (length (now (a .input)))
+    → Feeds (a .runner) (a .lines) (a .over) (now (a .input)) (now (a .out)) (putMid (l .length) (length (l .out) - l .length) (l .out) (text .last .1 .1 .1 .0))
+    (counted .wrapping-add-u64 .result) at (l .length + text .result)
 done c at e =
-    let a = c .before .before .before .before .before .before .before .before .before .before .before .before .before .args in
-    let l = c .before .before .before .before .before .before .before .before .before .before .loop in
-    let found = c .before .before .before .before .before .before .before .before .find in
     let text = c .before .before .respond in
+    let counted = c .before .before .before .before .before in
+    let found = counted .before .before .before in
+    let l = found .before .before .loop in
+    let a = found .before .before .before .before .before .args in
+    let part = text .last .1 .1 .1 .0 in
+    let room = length (l .out) - l .length in
+    let number = counted .wrapping-add-u64 in
     subst
-    (λ (n : ℕ). Feeds (a .runner) (a .lines) (a .over) (now (a .input)) (now (a .out)) (putMid (l .length) (length (l .out) - l .length) (l .out) (text .last .1 .1 .1 .0)) (c .before .before .before .before .before .wrapping-add-u64 .result) n (l .length + text .result))
+    (λ (n : ℕ). Feeds (a .runner) (a .lines) (a .over) (now (a .input)) (now (a .out)) (putMid (l .length) room (l .out) part) (number .result) n (l .length + text .result))
     (sym e)
-    (turn-done (a .runner) (a .lines) (a .over) (now (a .input)) (now (a .out)) (l .out) (l .count) (l .at) (l .length) (found .result) (c .before .before .before .before .before .wrapping-add-u64 .result) (length (l .out) - l .length) (text .result) (text .last .1 .1 .1 .0)
-    (l .inv) (c .before .before .before .before .before .before .before .before .before .loop-test .taken) (found .ensures .0) (found .ensures .1) (way (c .before .before .before .before .before .before .before)) (c .before .before .before .before .before .wrapping-add-u64 .ensures) refl (c .before .before .before .before .before .before .if3 .left) (text .ensures .0) (text .ensures .1) (search needs))
+    (turn-done (a .runner) (a .lines) (a .over) (now (a .input)) (now (a .out)) (l .out) (l .count) (l .at) (l .length)
+    (found .find .result) (number .result) room (text .result) part (l .inv) (found .before .loop-test .taken) (found .find .ensures .0) (found .find .ensures .1)
+    (way (counted .before .before)) (number .ensures) refl (counted .before .if3 .left) (text .ensures .0) (text .ensures .1) (search needs))
 
 loop-holds : tie.Need-loop-holds Inv-loop μ-loop
 loop-holds c = starts _ _ _ _ _
@@ -97,7 +105,8 @@ unfolding all
 returns c =
     let a = c .before .before .before .before .args in
     let l = c .before .loop in
-    ends (a .runner) (a .lines) (a .over) (now (a .input)) (now (a .out)) (l .out) (l .count) (l .at) (l .length) (l .inv) (ends-all (a .runner) (a .lines) (a .over) (now (a .input)) (now (a .out)) (l .out) (l .count) (l .at) (l .length) (l .inv) (c .loop-test .left))
+    ends (a .runner) (a .lines) (a .over) (now (a .input)) (now (a .out)) (l .out) (l .count) (l .at) (l .length) (l .inv)
+    (ends-all (a .runner) (a .lines) (a .over) (now (a .input)) (now (a .out)) (l .out) (l .count) (l .at) (l .length) (l .inv) (c .loop-test .left))
 
 same-length-2 : tie.Need-same-length-2 Inv-loop μ-loop
 same-length-2 c = search needs
@@ -107,7 +116,10 @@ unfolding all
 returns-2 c =
     let a = c .before .before .before .before .before .before .before .args in
     let l = c .before .before .before .before .loop in
-    ends (a .runner) (a .lines) (a .over) (now (a .input)) (now (a .out)) (l .out) (l .count) (l .at) (l .length) (l .inv) (ends-open (a .runner) (a .lines) (a .over) (now (a .input)) (now (a .out)) (l .out) (l .count) (l .at) (l .length) (l .inv) (not-true _ (c .if2 .taken)) (last-open (now (a .input)) (l .at) (c .before .before .find .result) (l .inv .within) (c .before .before .find .ensures .0) (c .before .if1 .taken)))
+    let found = c .before .before .find in
+    ends (a .runner) (a .lines) (a .over) (now (a .input)) (now (a .out)) (l .out) (l .count) (l .at) (l .length) (l .inv)
+    (ends-open (a .runner) (a .lines) (a .over) (now (a .input)) (now (a .out)) (l .out) (l .count) (l .at) (l .length) (l .inv)
+    (not-true _ (c .if2 .taken)) (last-open (now (a .input)) (l .at) (found .result) (l .inv .within) (found .ensures .0) (c .before .if1 .taken)))
 
 same-length-3 : tie.Need-same-length-3 Inv-loop μ-loop
 same-length-3 c = search needs
@@ -117,7 +129,8 @@ unfolding all
 returns-3 c =
     let a = c .before .before .before .before .before .before .before .args in
     let l = c .before .before .before .before .loop in
-    ends (a .runner) (a .lines) (a .over) (now (a .input)) (now (a .out)) (l .out) (l .count) (l .at) (l .length) (l .inv) (ends-room (a .runner) (a .lines) (a .over) (now (a .input)) (now (a .out)) (l .out) (l .count) (l .at) (l .length) (l .inv) (c .if3 .taken))
+    ends (a .runner) (a .lines) (a .over) (now (a .input)) (now (a .out)) (l .out) (l .count) (l .at) (l .length) (l .inv)
+    (ends-room (a .runner) (a .lines) (a .over) (now (a .input)) (now (a .out)) (l .out) (l .count) (l .at) (l .length) (l .inv) (c .if3 .taken))
 
 pub feed-spec : {M : Type 1} → statement M
 feed-spec =

@@ -40,7 +40,9 @@ loop-again : tie.Need-loop-again Inv-loop μ-loop
 loop-again c =
     let a = c .before .before .before .before .before .before .args in
     let l = c .before .before .before .loop in
-    (l .inv .0, keeps-more (now (a .buffer)) (a .at) (c .before .before .before .before .lesser .result) (l .inv .0) (l .buffer) (l .count) (l .from) (l .inv .1) (c .before .before .loop-test .taken) (omega (arith, l .inv .1 .few, c .before .if1 .left)))
+    let last = c .before .before .before .before .lesser .result in
+    let test = c .before .before .loop-test .taken in
+    (l .inv .0, keeps-more (now (a .buffer)) (a .at) last (l .inv .0) (l .buffer) (l .count) (l .from) (l .inv .1) test (omega (arith, l .inv .1 .few, c .before .if1 .left)))
 
 same-length : tie.Need-same-length Inv-loop μ-loop
 same-length c = search needs
@@ -58,7 +60,8 @@ returns-2 : tie.Need-returns-2 Inv-loop μ-loop
 returns-2 c =
     let a = c .before .before .before .before .before .args in
     let l = c .before .before .loop in
-    kept-all (now (a .buffer)) (a .at) (a .end) (c .before .before .before .lesser .result) (c .before .before .before .lesser .ensures) (l .buffer) (l .count) (l .from) (l .inv .1) (inr (c .if1 .taken))
+    let last = c .before .before .before .lesser in
+    kept-all (now (a .buffer)) (a .at) (a .end) (last .result) (last .ensures) (l .buffer) (l .count) (l .from) (l .inv .1) (inr (c .if1 .taken))
 
 pub keep-spec : {M : Type 1} → statement M
 keep-spec =

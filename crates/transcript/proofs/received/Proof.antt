@@ -1,5 +1,6 @@
 -- `received` keeps the ends of the part within the buffer.
-use mathlib.Core.Path.{ap, sym, _∙_}
+use mathlib.Core.Path.{_≡_, ap, sym, _∙_}
+use mathlib.Core.Bool.{false}
 use lib.IntN.{ℤ, pos}
 use Prim.Native.Nat.{_-_}
 use lib.ListN.{length, take, drop}
@@ -13,6 +14,23 @@ use borrow.Author.Needs.{needs}
 use Rattle.transcript.proofs.received.Statement.{statement}
 use Rattle.transcript.proofs.received.Tie as tie
 
+-- Past the first test the read did not fail.
+no-error : (c : tie.Else1) → ltZ (c .before .before .before .before .args .got) (pos 0) ≡ false
+no-error c =
+    let before = c .before .before .before .before in
+    ap (λ (z : ℤ). ltZ z (pos 0)) (sym (toZ-ofZ w64 (before .args .got) (before .fits .got))) ∙ c .if1 .left
+
+-- The bytes that came, by the number that the read gave.
+counted : (c : tie.After-count) → let a = c .before .before .before .before .before .before .args in
+    let end = c .before .before .before .before .lesser .result in
+    c .count .result ≡ clamped (a .got) (length (take (length (now (a .buffer)) - end) (drop end (now (a .buffer)))))
+counted c =
+    let before = c .before .before .before .before .before .before in
+    let b = now (before .args .buffer) in
+    let end = c .before .before .before .before .lesser .result in
+    c .count .ensures .1
+    ∙ ap (λ (z : ℤ). clamped z (length (take (length b - end) (drop end b)))) (toZ-ofZ w64 (before .args .got) (before .fits .got))
+
 lesser-requires : tie.Need-lesser-requires
 lesser-requires c κs = search needs
 
@@ -22,7 +40,10 @@ lesser-requires-2 c κs = search needs
 returns : tie.Need-returns
 returns c =
     let a = c .before .before .before .before .args in
-    read-failed (now (a .buffer)) (a .session) (c .before .before .lesser .result) (c .before .lesser2 .result) (c .before .before .lesser .ensures) (c .before .lesser2 .ensures) (a .got) (ap (λ (z : ℤ). ltZ z (pos 0)) (sym (toZ-ofZ w64 (a .got) (c .before .before .before .before .fits .got))) ∙ c .if1 .taken)
+    let end = c .before .before .lesser in
+    let at = c .before .lesser2 in
+    let failed = ap (λ (z : ℤ). ltZ z (pos 0)) (sym (toZ-ofZ w64 (a .got) (c .before .before .before .before .fits .got))) ∙ c .if1 .taken in
+    read-failed (now (a .buffer)) (a .session) (end .result) (at .result) (end .ensures) (at .ensures) (a .got) failed
 
 sub-count : tie.Need-sub-count
 sub-count c = search needs
@@ -39,7 +60,10 @@ count-requires c κs = search needs
 returns-2 : tie.Need-returns-2
 returns-2 c =
     let a = c .before .before .before .before .before .before .before .args in
-    read-none (now (a .buffer)) (a .session) (c .before .before .before .before .before .lesser .result) (c .before .before .before .before .lesser2 .result) (c .before .before .before .before .before .lesser .ensures) (c .before .before .before .before .lesser2 .ensures) (a .got) (ap (λ (z : ℤ). ltZ z (pos 0)) (sym (toZ-ofZ w64 (a .got) (c .before .before .before .before .before .before .before .fits .got))) ∙ c .before .before .before .if1 .left) (c .before .count .result) (c .before .count .ensures .1 ∙ ap (λ (z : ℤ). clamped z (length (take (length (now (a .buffer)) - c .before .before .before .before .before .lesser .result) (drop (c .before .before .before .before .before .lesser .result) (now (a .buffer)))))) (toZ-ofZ w64 (a .got) (c .before .before .before .before .before .before .before .fits .got))) (c .if2 .taken)
+    let end = c .before .before .before .before .before .lesser in
+    let at = c .before .before .before .before .lesser2 in
+    read-none (now (a .buffer)) (a .session) (end .result) (at .result) (end .ensures) (at .ensures) (a .got) (no-error (c .before .before .before))
+    (c .before .count .result) (counted (c .before)) (c .if2 .taken)
 
 add-t8 : tie.Need-add-t8
 add-t8 c = search needs
@@ -47,7 +71,10 @@ add-t8 c = search needs
 returns-3 : tie.Need-returns-3
 returns-3 c =
     let a = c .before .before .before .before .before .before .before .args in
-    read-some (now (a .buffer)) (a .session) (c .before .before .before .before .before .lesser .result) (c .before .before .before .before .lesser2 .result) (c .before .before .before .before .before .lesser .ensures) (c .before .before .before .before .lesser2 .ensures) (a .got) (ap (λ (z : ℤ). ltZ z (pos 0)) (sym (toZ-ofZ w64 (a .got) (c .before .before .before .before .before .before .before .fits .got))) ∙ c .before .before .before .if1 .left) (c .before .count .result) (c .before .count .ensures .1 ∙ ap (λ (z : ℤ). clamped z (length (take (length (now (a .buffer)) - c .before .before .before .before .before .lesser .result) (drop (c .before .before .before .before .before .lesser .result) (now (a .buffer)))))) (toZ-ofZ w64 (a .got) (c .before .before .before .before .before .before .before .fits .got))) (c .if2 .left)
+    let end = c .before .before .before .before .before .lesser in
+    let at = c .before .before .before .before .lesser2 in
+    read-some (now (a .buffer)) (a .session) (end .result) (at .result) (end .ensures) (at .ensures) (a .got) (no-error (c .before .before .before))
+    (c .before .count .result) (counted (c .before)) (c .if2 .left)
 
 pub received-spec : {M : Type 1} → statement M
 received-spec =

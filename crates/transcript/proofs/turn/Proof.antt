@@ -27,8 +27,14 @@ feed-requires c κs = search needs
 
 add-next : tie.Need-add-next
 add-next c =
-    let a = c .before .before .before .before .before .before .before .before .before .before .before .args in
-    omega (arith, fits (a .runner) (now (a .buffer)) (now (a .out)) (c .before .before .before .feed .last .1 .1 .1 .1 .0) (a .session) (c .before .before .before .before .before .before .before .before .lesser .result) (c .before .before .before .before .before .before .before .lesser2 .result) (c .before .before .before .before .before .before .before .before .lesser .ensures) (c .before .before .before .before .before .before .before .lesser2 .ensures) (c .before .before .before .feed .result) (c .before .before .before .feed .ensures))
+    let feed = c .before .before .before .feed in
+    let to = c .before .before .before .before .before .before .before in
+    let a = to .before .before .before .before .args in
+    let end = to .before .lesser in
+    let at = to .lesser2 in
+    let out = feed .last .1 .1 .1 .1 .0 in
+    omega
+    (arith, fits (a .runner) (now (a .buffer)) (now (a .out)) out (a .session) (end .result) (at .result) (end .ensures) (at .ensures) (feed .result) (feed .ensures))
 
 same-length : tie.Need-same-length
 same-length c = search needs
@@ -38,8 +44,13 @@ same-length-2 c = search needs
 
 returns : tie.Need-returns
 returns c =
-    let a = c .before .before .before .before .before .before .before .before .before .before .before .args in
-    turn-writes (a .runner) (now (a .buffer)) (now (a .out)) (c .before .before .before .feed .last .1 .1 .1 .1 .0) (a .session) (c .before .before .before .before .before .before .before .before .lesser .result) (c .before .before .before .before .before .before .before .lesser2 .result) (c .before .before .before .before .before .before .before .before .lesser .ensures) (c .before .before .before .before .before .before .before .lesser2 .ensures) (c .before .before .before .feed .result) (c .before .before .before .feed .ensures) (c .if1 .taken) (search needs)
+    let feed = c .before .before .before .feed in
+    let to = c .before .before .before .before .before .before .before in
+    let a = to .before .before .before .before .args in
+    let end = to .before .lesser in
+    let at = to .lesser2 in
+    turn-writes (a .runner) (now (a .buffer)) (now (a .out)) (feed .last .1 .1 .1 .1 .0) (a .session) (end .result) (at .result) (end .ensures) (at .ensures)
+    (feed .result) (feed .ensures) (c .if1 .taken) (search needs)
 
 same-length-3 : tie.Need-same-length-3
 same-length-3 c = search needs
@@ -50,8 +61,13 @@ same-length-4 c = search needs
 returns-2 : tie.Need-returns-2
 unfolding wantedOf
 returns-2 c =
-    let a = c .before .before .before .before .before .before .before .before .before .before .before .before .args in
-    turn-stops (a .runner) (now (a .buffer)) (now (a .out)) (c .before .before .before .before .feed .last .1 .1 .1 .1 .0) (a .session) (c .before .before .before .before .before .before .before .before .before .lesser .result) (c .before .before .before .before .before .before .before .before .lesser2 .result) (c .before .before .before .before .before .before .before .before .before .lesser .ensures) (c .before .before .before .before .before .before .before .before .lesser2 .ensures) (c .before .before .before .before .feed .result) (c .before .before .before .before .feed .ensures) (omega (arith, c .before .if1 .left)) (c .if2 .taken)
+    let feed = c .before .before .before .before .feed in
+    let to = c .before .before .before .before .before .before .before .before in
+    let a = to .before .before .before .before .args in
+    let end = to .before .lesser in
+    let at = to .lesser2 in
+    turn-stops (a .runner) (now (a .buffer)) (now (a .out)) (feed .last .1 .1 .1 .1 .0) (a .session) (end .result) (at .result) (end .ensures) (at .ensures)
+    (feed .result) (feed .ensures) (omega (arith, c .before .if1 .left)) (c .if2 .taken)
 
 keep-requires : tie.Need-keep-requires
 keep-requires c κs = search needs
@@ -65,8 +81,15 @@ same-length-6 c = search needs
 returns-3 : tie.Need-returns-3
 unfolding wantedOf
 returns-3 c =
-    let a = c .before .before .before .before .before .before .before .before .before .before .before .before .before .before .before .before .args in
-    turn-reads (a .runner) (now (a .buffer)) (now (a .out)) (c .before .before .before .before .before .before .before .before .feed .last .1 .1 .1 .1 .0) (a .session) (c .before .before .before .before .before .before .before .before .before .before .before .before .before .lesser .result) (c .before .before .before .before .before .before .before .before .before .before .before .before .lesser2 .result) (c .before .before .before .before .before .before .before .before .before .before .before .before .before .lesser .ensures) (c .before .before .before .before .before .before .before .before .before .before .before .before .lesser2 .ensures) (c .before .before .before .before .before .before .before .before .feed .result) (c .before .before .before .before .before .before .before .before .feed .ensures) (omega (arith, c .before .before .before .before .before .if1 .left)) (c .before .before .before .before .if2 .left) _ (c .before .before .keep .result) (c .before .before .keep .ensures)
+    let keep = c .before .before .keep in
+    let tested = c .before .before .before .before in
+    let feed = tested .before .before .before .before .feed in
+    let to = tested .before .before .before .before .before .before .before .before in
+    let a = to .before .before .before .before .args in
+    let end = to .before .lesser in
+    let at = to .lesser2 in
+    turn-reads (a .runner) (now (a .buffer)) (now (a .out)) (feed .last .1 .1 .1 .1 .0) (a .session) (end .result) (at .result) (end .ensures) (at .ensures)
+    (feed .result) (feed .ensures) (omega (arith, tested .before .if1 .left)) (tested .if2 .left) _ (keep .result) (keep .ensures)
 
 pub turn-spec : {M : Type 1} → statement M
 turn-spec =

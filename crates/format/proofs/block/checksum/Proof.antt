@@ -57,13 +57,15 @@ loop-less c = search needs
 
 loop-again : tie.Need-loop-again Inv-loop μ-loop
 loop-again c =
-    let l = c .before .before .before .before .loop in (
+    let l = c .before .before .before .before .loop in
+    let more = sum-more (now (c .before .before .before .before .before .before .before .args .block)) (l .i) (l .sum) (l .inv .4) in
+    let byte = c .before .to-u32 in
+    let sum = c .wrapping-add-u16 in (
       omega arith,
       omega arith,
       omega arith,
       omega arith,
-      sum-more (now (c .before .before .before .before .before .before .before .args .block)) (l .i) (l .sum) (l .inv .4) (l .weight) (c .before .to-u32 .result) (c .wrapping-add-u16 .result) (omega arith) (omega arith) (c .before .to-u32 .ensures .0)
-          (c .wrapping-add-u16 .ensures),
+      more (l .weight) (byte .result) (sum .result) (omega arith) (omega arith) (byte .ensures .0) (sum .ensures),
     )
 
 cast-result : tie.Need-cast-result Inv-loop μ-loop

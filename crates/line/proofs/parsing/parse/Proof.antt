@@ -31,13 +31,18 @@ none-requires-2 : tie.Need-none-requires-2 Inv-loop μ-loop
 none-requires-2 c κs = search needs
 
 returns-2 : tie.Need-returns-2 Inv-loop μ-loop
-returns-2 c = c .none2 .ensures ∙ no-number (c .before .before .before .before .before .loop .inv) (c .before .before .before .before .loop-test .taken) (c .before .before .if2 .taken) (c .before .if3 .taken)
+returns-2 c =
+    let l = c .before .before .before .before in
+    c .none2 .ensures ∙ no-number (l .before .loop .inv) (l .loop-test .taken) (c .before .before .if2 .taken) (c .before .if3 .taken)
 
 none-requires-3 : tie.Need-none-requires-3 Inv-loop μ-loop
 none-requires-3 c κs = search needs
 
 returns-3 : tie.Need-returns-3 Inv-loop μ-loop
-returns-3 c = c .none3 .ensures ∙ no-place (c .before .before .before .before .before .before .loop .inv) (c .before .before .before .before .before .loop-test .taken) (c .before .before .before .if2 .taken) (c .before .before .if3 .left) (c .before .if4 .taken)
+returns-3 c =
+    let l = c .before .before .before .before .before in
+    c .none3 .ensures
+    ∙ no-place (l .before .loop .inv) (l .loop-test .taken) (c .before .before .before .if2 .taken) (c .before .before .if3 .left) (c .before .if4 .taken)
 
 cast-numbers : tie.Need-cast-numbers Inv-loop μ-loop
 cast-numbers c = search needs
@@ -58,7 +63,10 @@ none-requires-4 : tie.Need-none-requires-4 Inv-loop μ-loop
 none-requires-4 c κs = search needs
 
 returns-4 : tie.Need-returns-4 Inv-loop μ-loop
-returns-4 c = c .none4 .ensures ∙ no-byte (c .before .before .before .before .before .before .loop .inv) (c .before .before .before .before .before .loop-test .taken) (c .before .before .before .if2 .left) _ (c .before .before .onward .ensures) (c .before .if5 .taken)
+returns-4 c =
+    let l = c .before .before .before .before .before in
+    c .none4 .ensures
+    ∙ no-byte (l .before .loop .inv) (l .loop-test .taken) (c .before .before .before .if2 .left) _ (c .before .before .onward .ensures) (c .before .if5 .taken)
 
 add-digits : tie.Need-add-digits Inv-loop μ-loop
 add-digits c = search needs

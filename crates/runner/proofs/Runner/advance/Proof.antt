@@ -1,27 +1,27 @@
--- The loop's invariant: the boxes still to run, from here, come to what the boxes asked for come to from the start; the state, the limit and the mode
--- are the runner's, and no ending is met. Where the arms of a box that does not end the run meet, one law says what it left.
+-- The loop's invariant: the boxes still to run, from here, come to what the boxes asked for come to from the start; the runner differs from the one
+-- at the start in what boxes store alone, and no ending is met. Where the arms of a box that does not end the run meet, one law says what it left.
 use mathlib.Core.Path.{_≡_, refl, ap, sym, _∙_}
 use mathlib.Core.Logic.{⊎-elim, inl}
-use mathlib.Core.Bool.{Bool, true, false, cond}
-use Prim.Native.Nat.{ℕ, _≤_, _<_, _^_}
+use mathlib.Core.Bool.{cond}
+use Prim.Native.Nat.{ℕ, _+_, _≤_, _<_, _^_}
 use native.Mathlib.Omega.{arith}
 use borrow.Author.Needs.{needs}
-use borrow.Author.Tests.{eqb-true}
+use Rattle.marks.specs.Marks.{modeOf}
+use Rattle.machine.specs.Run.{valued, notice, spent, going, goesOn, settle, step, run}
+use Rattle.machine.proofs.Runs.{run-none}
 use Rattle.runner.specs.declared.Runner.{Runner}
-use Rattle.runner.specs.State.{headerIn, isRunning, valued, notice, spent}
-use Rattle.runner.specs.Step.{settle, run}
-use Rattle.runner.proofs.Boxes.{box-does, Left, left, seen, spent-left, counted-left, turned, CameTo, came-to, advance-came}
-use Rattle.runner.proofs.Runs.{run-none}
+use Rattle.runner.specs.State.{isRunning, runIn}
+use Rattle.runner.proofs.Boxes.{seen, Stored, stored-more, acts, left, goes-spent, goes-further, turned, CameTo, came-over, no-ending, advance-came}
 use Rattle.runner.proofs.Runner.advance.Statement.{statement}
 use Rattle.runner.proofs.Runner.advance.Tie as tie
 
 abbrev Inv-loop : tie.InvT-loop
 Inv-loop m self₀ running limit mode todo₀ at₀ steps₀ end₀ value₀ self todo at steps end value =
-    (run (cond running m 0) self₀ ≡ run todo (seen self at steps))
+    (run (self₀ .table) (cond running m 0) (going (runIn self₀)) ≡ run (self₀ .table) todo (going (seen self at steps)))
     × (todo ≤ cond running m 0)
-    × (self .state ≡ self₀ .state)
-    × (self .limit ≡ limit)
-    × (self .mode ≡ mode)
+    × Stored self₀ self
+    × (limit ≡ self₀ .limit)
+    × (mode ≡ modeOf (self₀ .mode))
     × (steps < 2 ^ 16)
     × (end ≡ 1)
     × (value ≡ 0)
@@ -30,58 +30,77 @@ Inv-loop m self₀ running limit mode todo₀ at₀ steps₀ end₀ value₀ sel
 abbrev μ-loop : tie.MeasureT-loop
 μ-loop m self₀ running limit mode todo₀ at₀ steps₀ end₀ value₀ self todo at steps end value = todo
 
--- A loop that has boxes to run has a run under way.
-under-way : (c : tie.In-loop Inv-loop μ-loop) → c .before .loop .self .state ≡ 1
-under-way c = let l = c .before .loop in l .inv .2 ∙ started (isRunning (c .before .before .before .args .t1)) _ _ refl (l .inv .1) (c .loop-test .taken)
-  where
-    started : (running : Bool) (m todo : ℕ) → isRunning (c .before .before .before .args .t1) ≡ running → todo ≤ cond running m 0 → 0 < todo
-        → c .before .before .before .args .t1 .state ≡ 1
-    started true m todo e h t = eqb-true _ _ e
-    started false m todo e h t = absurd (omega arith)
-
--- Where the arms of the box meet.
-joined : (c : tie.At-match-came Inv-loop μ-loop) → let l = c .before .before .before .before .before .before .before .before .before .loop in
-    Left (seen (l .self) (l .at) (l .steps)) (c .match .self) (c .match .at)
+-- Where the arms of a box that does not end the run meet: it goes on in what was stored.
+meets : (c : tie.At-match-came Inv-loop μ-loop) → let at-loop = c .before .before .before .before .before .before .before .before .before in
+    let l = at-loop .loop in let r = at-loop .before .before .before .args .t1 in
+    (step (r .table) (seen (l .self) (l .at) (l .steps)) ≡ goesOn (seen (c .match .self) (c .match .at) (l .steps + 1))) × Stored r (c .match .self)
 unfolding settle
-joined c =
-    let l = c .before .before .before .before .before .before .before .before .before .loop in
-    let r = seen (l .self) (l .at) (l .steps) in
-    let at = c .before .before .before .before .before .box-at in
+meets c =
+    let at-loop = c .before .before .before .before .before .before .before .before .before in
+    let l = at-loop .loop in
+    let r = at-loop .before .before .before .args .t1 in
+    let stored = l .inv .2 in
+    let box = c .before .before .before .before .before .box-at in
     let done = c .before .run-box in
+    let does = acts (l .self) r _ (l .at) (l .steps) (box .result) (done .result) stored (l .inv .4) (box .ensures) (done .ensures) in
     ⊎-elim
-    (λ w. left (l .self) (c .match .self) (l .at) (l .steps) _ _ _ _ (c .match .at) (w .3) (w .4)
-    (box-does r _ (at .result) (done .result) _ (l .inv .4) (at .ensures) (done .ensures) (w .1 .given .1)))
-    (λ w. left (l .self) (c .match .self) (l .at) (l .steps) _ _ _ _ (c .match .at) (w .3) (w .4)
-    (box-does r _ (at .result) (done .result) _ (l .inv .4) (at .ensures) (done .ensures) (w .1 .given .1)))
+    (λ w. (
+      left _ (l .self) (c .match .self) (l .at) (l .steps) _ _ _ _ (c .match .at) (w .3) (w .4) (does _ (w .1 .given .1)),
+      stored-more r (l .self) _ _ _ _ stored (w .3),
+    ))
+    (λ w. (
+      left _ (l .self) (c .match .self) (l .at) (l .steps) _ _ _ _ (c .match .at) (w .3) (w .4) (does _ (w .1 .given .1)),
+      stored-more r (l .self) _ _ _ _ stored (w .3),
+    ))
     (c .match .came)
 
 -- Where the loop is left: no box is to run, a halt gives a value, a decision or a halt a notice, or the limit is reached.
-over : (c : tie.Left-loop Inv-loop μ-loop) → let q = c .loop-test in let a = c .before .before .before .args in
-    CameTo (cond (isRunning (a .t1)) (a .m) 0) (a .t1) (q .self) (q .at) (q .end) (q .value) (q .steps)
+over : (c : tie.Left-loop Inv-loop μ-loop) → let q = c .loop-test in let a = c .before .before .before .before .args in
+    CameTo (a .t1 .table) (cond (isRunning (a .t1)) (a .m) 0) (runIn (a .t1)) (q .self) (q .at) (q .end) (q .value) (q .steps) × Stored (a .t1) (q .self)
 unfolding settle
 over c =
     let l = c .before .loop in
-    let r = seen (l .self) (l .at) (l .steps) in
     let q = c .loop-test in
+    let r = c .before .before .before .before .args .t1 in
+    let stored = l .inv .2 in
     ⊎-elim
-    (λ w. inl (w .5 ∙ l .inv .6, omega arith, ap (λ (x : Runner). x .state) (w .1) ∙ l .inv .2, l .inv .0 ∙ run-none _ r (w .0 .left) ∙ rw (w .1, w .3, w .4) refl))
+    (λ w. (
+      inl (w .5 ∙ l .inv .6, omega arith, l .inv .0 ∙ run-none _ _ _ (w .0 .left) ∙ rw (w .1, w .3, w .4) refl),
+      rw (w .1) stored,
+    ))
     (⊎-elim
-    (λ w. came-to _ (l .todo) _ r (l .inv .0) (under-way (record { before = c .before; loop-test = w .0 })) (valued _) (q .self) (q .at) (q .end) (q .value) (q .steps) (w .0 .taken)
-    (box-does r _ (w .3 .result) (w .7 .result) _ (l .inv .4) (w .3 .ensures) (w .7 .ensures) (w .9 .given .1))
-    (ap headerIn (w .11)) (ap (λ (x : Runner). x .table) (w .11)) (w .15) (w .16) (w .14))
+    (λ w. (
+      came-over _ _ (l .todo) _ _ (l .inv .0) (w .0 .taken) (valued _) (q .self) (q .at) (q .end) (q .value) (q .steps)
+          (acts (l .self) r _ (l .at) (l .steps) (w .3 .result) (w .7 .result) stored (l .inv .4) (w .3 .ensures) (w .7 .ensures) _ (w .9 .given .1))
+          (w .15) (w .16) (w .14),
+      rw (w .11) stored,
+    ))
     (⊎-elim
-    (λ w. came-to _ (l .todo) _ r (l .inv .0) (under-way (record { before = c .before; loop-test = w .0 })) notice (q .self) (q .at) (q .end) (q .value) (q .steps) (w .0 .taken)
-    (box-does r _ (w .3 .result) (w .7 .result) _ (l .inv .4) (w .3 .ensures) (w .7 .ensures) (w .9 .given .1))
-    (ap headerIn (w .10)) (ap (λ (x : Runner). x .table) (w .10)) (w .14) (w .15 ∙ l .inv .7) (w .13))
+    (λ w. (
+      came-over _ _ (l .todo) _ _ (l .inv .0) (w .0 .taken) notice (q .self) (q .at) (q .end) (q .value) (q .steps)
+          (acts (l .self) r _ (l .at) (l .steps) (w .3 .result) (w .7 .result) stored (l .inv .4) (w .3 .ensures) (w .7 .ensures) _ (w .9 .given .1))
+          (w .14) (w .15 ∙ l .inv .7) (w .13),
+      rw (w .10) stored,
+    ))
     (λ w.
-    let at = joined (record { before = record { before = record { before = record { before = record { before = record { before = record { before = record { before = record { before = c .before; loop-test = w .0 }; self = w .1 }; box-at-arg = w .2 }; box-at = w .3 }; self2 = w .4 }; run-box-arg = w .5 }; run-box-arg2 = w .6 }; run-box = w .7 }; match = w .8 }) in
-    came-to _ (l .todo) _ r (l .inv .0) (under-way (record { before = c .before; loop-test = w .0 })) spent (q .self) (q .at) (q .end) (q .value) (q .steps) (w .0 .taken)
-    (spent-left r _ _ at (omega (arith, w .9 .taken, l .inv .3)))
-    (ap headerIn (w .10) ∙ at .header) (ap (λ (x : Runner). x .table) (w .10) ∙ at .table) (w .14) (w .15 ∙ l .inv .7) (w .13))))
+    let boxed : tie.After-box-at Inv-loop μ-loop =
+    record { before = record { before = record { before = record { before = c .before; loop-test = w .0 }; self = w .1 }; box-at-arg = w .2 }; box-at = w .3 } in
+    let lent : tie.After-run-box Inv-loop μ-loop =
+    record { before = record { before = record { before = record { before = boxed; self2 = w .4 }; run-box-arg = w .5 }; run-box-arg2 = w .6 }; run-box = w .7 } in
+    let at = meets (record { before = lent; match = w .8 }) in
+    let limit = ap (λ (x : Runner). x .limit) (at .1) in (
+      came-over _ _ (l .todo) _ _ (l .inv .0) (w .0 .taken) spent (q .self) (q .at) (q .end) (q .value) (q .steps)
+          (at .0 ∙ goes-spent _ (omega (arith, w .9 .taken, l .inv .3, limit)))
+          (w .14) (w .15 ∙ l .inv .7) (w .13),
+      rw (w .10) (at .1),
+    ))))
     (q .came)
 
 cast-limit : tie.Need-cast-limit Inv-loop μ-loop
 cast-limit c = search needs
+
+mode-of-requires : tie.Need-mode-of-requires Inv-loop μ-loop
+mode-of-requires c κs = search needs
 
 amount-requires : tie.Need-amount-requires Inv-loop μ-loop
 amount-requires c κs = search needs
@@ -90,7 +109,17 @@ cast-steps : tie.Need-cast-steps Inv-loop μ-loop
 cast-steps c = search needs
 
 loop-holds : tie.Need-loop-holds Inv-loop μ-loop
-loop-holds c = (ap (λ (n : ℕ). run n (c .before .args .t1)) (sym (c .amount .ensures)), omega arith, refl, refl, refl, search needs, refl, refl, search needs)
+loop-holds c = (
+  ap (λ (n : ℕ). run (c .before .before .args .t1 .table) n (going (runIn (c .before .before .args .t1)))) (sym (c .amount .ensures)),
+  omega arith,
+  refl,
+  refl,
+  c .before .mode-of .ensures,
+  search needs,
+  refl,
+  refl,
+  search needs,
+)
 
 sub-todo : tie.Need-sub-todo Inv-loop μ-loop
 sub-todo c = search needs
@@ -135,15 +164,13 @@ loop-again : tie.Need-loop-again Inv-loop μ-loop
 loop-again c =
     let here = c .before .before .before .before .before .before .before .before .before in
     let l = here .before .loop in
-    let r = seen (l .self) (l .at) (l .steps) in
-    let q = joined (c .before) in
-    let below : l .self .limit ≡ _ = l .inv .3 in (
-      turned _ (l .todo) _ r (l .inv .0) (under-way here) _ (here .loop-test .taken)
-          (counted-left r (c .before .match .self) (c .before .match .at) q (omega (arith, c .if1 .left, below))),
+    let at = meets (c .before) in
+    let limit = ap (λ (x : Runner). x .limit) (at .1) in (
+      turned _ _ (l .todo) _ _ (l .inv .0) (here .loop-test .taken) _ (at .0 ∙ goes-further _ (omega (arith, c .if1 .left, l .inv .3, limit))),
       omega arith,
-      sym (ap (λ (x : Runner). x .state) (q .counted)) ∙ l .inv .2,
-      sym (ap (λ (x : Runner). x .limit) (q .counted)) ∙ l .inv .3,
-      sym (ap (λ (x : Runner). x .mode) (q .counted)) ∙ l .inv .4,
+      at .1,
+      l .inv .3,
+      l .inv .4,
       omega (arith, c .if1 .left, l .inv .8),
       l .inv .6,
       l .inv .7,
@@ -152,7 +179,7 @@ loop-again c =
 
 cast-self : tie.Need-cast-self Inv-loop μ-loop
 cast-self c =
-    let below = ⊎-elim (λ w. w .1) (λ w. absurd (w .0 (c .before .if2 .taken))) (over (c .before .before)) in
+    let below = ⊎-elim (λ w. w .1) (λ w. absurd (no-ending (w .0) (sym (w .1) ∙ c .before .if2 .taken))) (over (c .before .before) .0) in
     search needs
 
 tell-requires : tie.Need-tell-requires Inv-loop μ-loop
@@ -160,10 +187,11 @@ tell-requires c κs = search needs
 
 returns : tie.Need-returns Inv-loop μ-loop
 returns c =
-    advance-came _ _ (c .before .before .loop-test .self) _ _ _ _ _ _ _ refl (over (c .before .before))
+    let came = over (c .before .before) in
+    advance-came _ _ (c .before .before .loop-test .self) _ _ _ _ _ _ (came .1)
     (λ e. ⊎-elim (λ w. w .2) (λ w. absurd (w .0 .left e)) (c .before .if2 .came))
     (λ n. ⊎-elim (λ w. absurd (n (w .0 .taken))) (λ w. w .3) (c .before .if2 .came))
-    (c .tell .ensures)
+    _ refl (came .0) (c .tell .ensures)
 
 pub advance-spec : {M : Type 1} → statement M
 advance-spec =
@@ -172,6 +200,7 @@ advance-spec =
     Inv-loop
     μ-loop
     cast-limit
+    mode-of-requires
     amount-requires
     cast-steps
     loop-holds

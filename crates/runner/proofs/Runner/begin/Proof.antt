@@ -1,13 +1,16 @@
--- The verdict is begin's; a mode and a limit that it lets pass fit their fields.
+-- The verdict is that of the rules of begin; a mode and a limit that they let pass fit their fields.
 use mathlib.Core.Path.{sym, _∙_}
-use Rattle.begin.proofs.Begins.{permitted, effective-fits}
-use Rattle.runner.proofs.Outcomes.{begin-starts, begin-refuses}
+use mathlib.Core.Bool.{false}
 use borrow.Author.Needs.{needs}
+use Rattle.begin.proofs.Begins.{effective-fits}
+use Rattle.calls.proofs.Permits.{permitted}
+use Rattle.runner.specs.State.{isEnded}
+use Rattle.runner.proofs.Outcomes.{begin-accepts, begin-refuses}
 use Rattle.runner.proofs.Runner.begin.Statement.{statement}
 use Rattle.runner.proofs.Runner.begin.Tie as tie
 
-check-requires : tie.Need-check-requires
-check-requires c κs = search needs
+check-begin-requires : tie.Need-check-begin-requires
+check-begin-requires c κs = search needs
 
 enum-told : tie.Need-enum-told
 enum-told c = search needs
@@ -20,9 +23,10 @@ first-marks-requires c κs = search needs
 
 cast-self : tie.Need-cast-self
 cast-self c =
-    let a = c .before .before .before .before .before .before .before .args in
-    let p = permitted _ _ (a .mode) _ (a .allowed) (a .limit) (sym (c .before .before .before .before .check .ensures) ∙ c .before .before .enum-told .given .1) in
-    let known = p .known in
+    let before = c .before .before .before .before in
+    let a = before .before .before .before .before .args in
+    let accepted = sym (before .check-begin .ensures false) ∙ c .before .before .enum-told .given .1 in
+    let known = permitted (a .mode) _ (a .allowed) (a .limit) _ accepted .known in
     search needs
 
 effective-requires : tie.Need-effective-requires
@@ -30,9 +34,10 @@ effective-requires c κs = search needs
 
 cast-self-2 : tie.Need-cast-self-2
 cast-self-2 c =
-    let a = c .before .before .before .before .before .before .before .before .args in
-    let p = permitted _ _ (a .mode) _ (a .allowed) (a .limit) (sym (c .before .before .before .before .before .check .ensures) ∙ c .before .before .before .enum-told .given .1) in
-    let fits = effective-fits _ (p .fits) in
+    let before = c .before .before .before .before .before in
+    let a = before .before .before .before .before .args in
+    let accepted = sym (before .check-begin .ensures false) ∙ c .before .before .before .enum-told .given .1 in
+    let fits = effective-fits _ (permitted (a .mode) _ (a .allowed) (a .limit) _ accepted .fits) in
     let is = c .effective .ensures in
     search needs
 
@@ -41,19 +46,24 @@ enum-told-2 c = search needs
 
 returns : tie.Need-returns
 returns c =
-    rw (c .before .before .before .enum-told .given .1)
-    (begin-starts _ _ _ _ _ _ _ _ (sym (c .before .before .before .before .before .check .ensures) ∙ c .before .before .before .enum-told .given .1) (c .before .before .first-vars .ensures) (c .before .first-marks .ensures) (c .effective .ensures))
+    let before = c .before .before .before .before .before in
+    let r = before .before .before .before .before .args .self in
+    let accepted = c .before .before .before .enum-told .given .1 in
+    rw accepted
+    (begin-accepts _ _ _ _ r _ _ _ (sym accepted ∙ before .check-begin .ensures (isEnded r)) (c .before .before .first-vars .ensures)
+    (c .before .first-marks .ensures) (c .effective .ensures))
 
 returns-2 : tie.Need-returns-2
 returns-2 c =
-    let a = c .before .before .before .before .before .args in
-    begin-refuses _ _ _ _ (a .self) (c .before .before .check .result) _ (c .before .before .check .ensures) (c .enum-told2 .given .1)
+    let before = c .before .before in
+    let r = before .before .before .before .before .args .self in
+    begin-refuses _ _ _ _ r (before .check-begin .result) _ (before .check-begin .ensures (isEnded r)) (c .enum-told2 .given .1)
 
 pub begin-spec : {M : Type 1} → statement M
 begin-spec =
     tie.close
     (tie.spec
-    check-requires
+    check-begin-requires
     enum-told
     first-vars-requires
     first-marks-requires

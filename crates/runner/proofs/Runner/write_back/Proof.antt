@@ -1,17 +1,60 @@
--- What the chart's own write back tells and leaves is the call's.
-use Rattle.runner.proofs.Outcomes.{write-back-does}
+-- Where the rules let it pass, the file is put into the buffer; else the buffer stays.
+use mathlib.Core.Path.{refl, sym, _∙_}
 use borrow.Author.Needs.{needs}
+use Rattle.runner.specs.State.{isRunning, isEnded}
+use Rattle.runner.proofs.Outcomes.{write-back-accepts, write-back-refuses}
 use Rattle.runner.proofs.Runner.write_back.Statement.{statement}
 use Rattle.runner.proofs.Runner.write_back.Tie as tie
 
-write-back-requires : tie.Need-write-back-requires
-write-back-requires c κs = search needs
+check-write-back-requires : tie.Need-check-write-back-requires
+check-write-back-requires c κs = search needs
+
+-- src/lib.rt:292:41
+enum-told : tie.Need-enum-told
+enum-told c = search needs
+
+-- src/lib.rt:292:17
+put-file-requires : tie.Need-put-file-requires
+put-file-requires c κs = search needs
+
+-- src/lib.rt:293:33
+file-length-requires : tie.Need-file-length-requires
+file-length-requires c κs = search needs
+
+-- src/lib.rt:295:30
+enum-known-verdict : tie.Need-enum-known-verdict
+enum-known-verdict c = search needs
 
 same-length : tie.Need-same-length
 same-length c = search needs
 
 returns : tie.Need-returns
-returns c = write-back-does _ (c .before .before .write-back .result) _ _ (c .before .before .write-back .ensures .0) (c .before .before .write-back .ensures .1)
+returns c =
+    let put = c .before .before .before in
+    let told = put .before .before .before .before in
+    let rules = told .before .before in
+    let r = rules .before .before .before .args .t1 in
+    write-back-accepts r (c .file-length .result) _ _
+    (sym (told .enum-told .given .1) ∙ rules .check-write-back .ensures _ (isRunning r) (isEnded r) refl)
+    (c .file-length .ensures .0) (put .put-file .ensures)
+
+-- src/lib.rt:285:5
+returns-2 : tie.Need-returns-2
+returns-2 c =
+    let rules = c .before .before .before in
+    let r = rules .before .before .before .args .t1 in
+    write-back-refuses r (rules .check-write-back .result) _ _ (rules .check-write-back .ensures _ (isRunning r) (isEnded r) refl)
+    (c .before .verdict .given .1)
 
 pub write-back-spec : {M : Type 1} → statement M
-write-back-spec = tie.close (tie.spec write-back-requires same-length returns)
+write-back-spec =
+    tie.close
+    (tie.spec
+    check-write-back-requires
+    enum-told
+    put-file-requires
+    file-length-requires
+    enum-known-verdict
+    same-length
+    returns
+    returns-2)

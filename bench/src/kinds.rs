@@ -1,0 +1,24 @@
+//! What a call tells as three numbers: a kind, as `crates/told/src/kinds.rt` has them, and two values, 0 where there is none.
+use crate::plain::Told;
+
+/// The kinds in the order of their numbers, from 0.
+pub const NAMES: [&str; 10] = ["done", "chart", "running", "ended", "value", "notice", "spent", "refused", "written", "shown"];
+
+pub fn numbers(told: Told) -> [u32; 3] {
+    match told {
+        Told::Done => [0, 0, 0],
+        Told::Chart { inputs, boxes } => [1, inputs.into(), boxes.into()],
+        Told::Running(steps) => [2, steps, 0],
+        Told::Ended(steps) => [3, steps, 0],
+        Told::Value { value, steps } => [4, value, steps],
+        Told::Notice(steps) => [5, steps, 0],
+        Told::Spent(steps) => [6, steps, 0],
+        Told::Refused(number, detail) => [7, number, detail],
+        Told::Written(length) => [8, length as u32, 0],
+    }
+}
+
+/// Of a box shown.
+pub fn shown(part: &[u8]) -> [u32; 3] {
+    [9, part.len() as u32, 0]
+}

@@ -1,0 +1,87 @@
+// For the benchmark, to be timed: many rounds of one call; what each tells is folded into a sum.
+use runner::Runner;
+use told::Encoded;
+ghost use Prim.Native.Nat.{_≤_};
+
+fn fold(sum: u64, word: u64) -> u64 {
+    std::num::wrapping_add_u64(sum ^ (sum >> 7), word)
+}
+
+pub fn fold_told(sum: u64, told: Encoded) -> u64 {
+    let kind = fold(sum, told.kind as u64);
+    fold(fold(kind, told.first), told.second as u64)
+}
+
+fn fold_byte(sum: u64, bytes: &[u8], at: usize) -> u64 {
+    if at < bytes.len() {
+        return fold(sum, widen::to_u32(bytes[at]) as u64);
+    }
+    sum
+}
+
+// The byte at a place, which becomes 255; 0 past the end.
+fn take_byte(bytes: &mut [u8], at: usize) -> u64 {
+    if at < bytes.len() {
+        let b = bytes[at];
+        bytes[at] = 255;
+        return widen::to_u32(b) as u64;
+    }
+    0
+}
+
+pub fn loaded(file: &[u8]) -> Runner {
+    let loading = Runner::new().load(file);
+    loading.runner
+}
+
+fn side(first: bool, half: usize) -> usize
+    ensures { λ r. ⌜ r ≤ half ⌝ }
+{
+    if first { 0 } else { half }
+}
+
+// Loads of two files in turn, each of which is a half of the lent bytes.
+#[no_mangle]
+pub extern "C" fn flow_loads(files: &[u8], rounds: u32) -> u64 {
+    let half = files.len() / 2;
+    let mut runner = Runner::new();
+    let mut sum: u64 = 0;
+    let mut i: u32 = 0;
+    while i < rounds {
+        let start = side(i % 2 == 0, half);
+        let end = start + half;
+        let loading = runner.load(&files[start..end]);
+        let told = loading.told;
+        runner = loading.runner;
+        sum = fold_told(sum, told::of_load(told));
+        i += 1;
+    }
+    sum
+}
+
+// Write backs of one chart; of each, one byte of the buffer is folded and changed.
+#[no_mangle]
+pub extern "C" fn flow_writes(file: &[u8], buf: &mut [u8], rounds: u32) -> u64 {
+    let runner = loaded(file);
+    let mut sum: u64 = 0;
+    let mut i: u32 = 0;
+    while i < rounds {
+        sum = fold_told(sum, told::of_written(runner.write_back(buf)));
+        sum = fold(sum, take_byte(buf, (i % 2048) as usize));
+        i += 1;
+    }
+    sum
+}
+
+// Boxes shown, by numbers below 256; of each, the length and the byte at 5 are folded.
+#[no_mangle]
+pub extern "C" fn flow_shows(file: &[u8], rounds: u32) -> u64 {
+    let mut sum: u64 = 0;
+    let mut i: u32 = 0;
+    while i < rounds {
+        let part = chart::show_box(file, i % 256);
+        sum = fold_byte(fold(sum, part.len() as u64), part, 5);
+        i += 1;
+    }
+    sum
+}

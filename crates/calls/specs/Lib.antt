@@ -1,0 +1,2 @@
+-- The calls and what refuses them.
+pub mod Calls

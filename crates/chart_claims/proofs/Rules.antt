@@ -1,0 +1,154 @@
+-- The boxes of a loaded table obey the box rules. Place p of the file is box p of the table, since the table's pieces are the file's blocks
+-- of boxes; the file's checks say that place p breaks no rule; and the rules, kind by kind, say what is in range. Assumes nothing.
+use Prim.Native.Nat.{ℕ, _+_, _*_, _-_, _/_, _%_, _≤_, _<_}
+use mathlib.Core.Path.{_≡_, ap, sym, _∙_}
+use mathlib.Core.List.{List, [], _∷_}
+use mathlib.Core.Bool.{Bool, true, false, _||_, _&&_}
+use mathlib.Core.Logic.{⊎-elim}
+use native.Mathlib.Decide.{decLt}
+use native.Mathlib.Omega.{arith}
+use lib.Dec.{eqb, ltb, leb}
+use lib.ListN.{length, replicate, length-append, length-replicate}
+use borrow.Author.Tests.{eqb-true, ltb-true, leb-true, lt-ltb, le-ltb}
+use Rattle.boxes.specs.Bytes.{at, part, allZero, boxOf}
+use Rattle.boxes.specs.Box.{readable, readsLeft, readsRight, operandRule, assignmentRule, decisionRule, haltRule, wellFormed}
+use Rattle.format.specs.File.{blocksFor, placeStart, placeOf, placeRule, checkFile}
+use Rattle.format.specs.declared.Header.{Header}
+use Rattle.format.specs.declared.Checked.the-variants as checked
+use Rattle.boxes.proofs.Bools.{and-left, and-right, or-cases, every}
+use Rattle.format.proofs.Accepted.{Accepted, accepted}
+use Rattle.chart.specs.Chart.{joined, boxBlocks, boxesOf, tableOf}
+use Rattle.chart_claims.specs.Claims.{ObeysRules, ShowsTheBox, BoxInRange, assignment, decision, halt, StaysInRange}
+use Rattle.chart.proofs.Lists.{length-part, part-part, part-zeros}
+use Rattle.chart.proofs.Joined.{Sized, joined-length, joined-piece}
+use Rattle.chart_claims.proofs.RoundTrip.{box-blocks}
+use Rattle.chart.proofs.Shows.{shows-box}
+
+module _ (f : List ℕ) (h : Header) (e : checkFile f ≡ checked.Accepted h) where
+  boxes-sized : (m : ℕ) → m ≤ boxBlocks (length f) → Sized (boxesOf f) 510 m
+  boxes-sized m l i q = let a = accepted f h e in length-part f (512 * (1 + i)) 510 (omega (arith, a .long, box-blocks f h e))
+
+  length-boxes : (m : ℕ) → m ≤ boxBlocks (length f) → length (joined (boxesOf f) m) ≡ 510 * m
+  length-boxes m l = joined-length (boxesOf f) 510 m (boxes-sized m l)
+
+  -- Place p of the file is box p of the table.
+  box-is-place : (p : ℕ) → p < 51 * (blocksFor (h .boxes) - 1) → boxOf (tableOf f) p ≡ placeOf f p
+  unfolding tableOf
+  box-is-place p l =
+      let m = boxBlocks (length f) in
+      let q = p / 51 in
+      let o = 10 * (p % 51) in
+      let blocks = box-blocks f h e in
+      let there : 10 * p ≡ 510 * q + o = omega arith in
+      let here : 512 * (1 + q) + o ≡ placeStart p = omega arith in
+      let piece = joined-piece (boxesOf f) 510 m (replicate (2040 - 510 * m) 0) q (boxes-sized m (omega arith)) (omega (arith, blocks)) in
+      ap (λ (x : ℕ). part (tableOf f) x 10) there
+      ∙ sym (part-part (tableOf f) (510 * q) 510 o 10 (omega arith))
+      ∙ ap (λ (x : List ℕ). part x o 10) piece
+      ∙ part-part f (512 * (1 + q)) 510 o 10 (omega arith)
+      ∙ ap (λ (x : ℕ). part f x 10) here
+
+  pub obeys : (p : ℕ) → p < h .boxes → wellFormed (h .inputs) (h .boxes) (boxOf (tableOf f) p) ≡ true
+  unfolding placeRule
+  obeys p l =
+      let a = accepted f h e in
+      let within : p < 51 * (blocksFor (h .boxes) - 1) = omega (arith, a .some) in
+      let holds = rw (lt-ltb p (h .boxes) l) at (a .places p within) in
+      ap (wellFormed (h .inputs) (h .boxes)) (box-is-place p within) ∙ holds
+
+  pub zeros-past : (p : ℕ) → h .boxes ≤ p → allZero (boxOf (tableOf f) p) ≡ true
+  unfolding placeRule tableOf
+  zeros-past p l = on (decLt p (51 * (blocksFor (h .boxes) - 1)))
+    where
+      on : Dec (p < 51 * (blocksFor (h .boxes) - 1)) → allZero (boxOf (tableOf f) p) ≡ true
+      on (yes within) =
+          let a = accepted f h e in
+          let holds = rw (le-ltb p (h .boxes) l) at (a .places p within) in
+          ap allZero (box-is-place p within) ∙ holds
+      on (no past) =
+          let m = boxBlocks (length f) in
+          let blocks = box-blocks f h e in
+          let long = length-boxes m (omega arith) in
+          part-zeros (joined (boxesOf f) m) (2040 - 510 * m) (10 * p) 10 (omega (arith, long, blocks))
+
+  table-long : length (tableOf f) ≡ 2040
+  unfolding tableOf
+  table-long =
+      let m = boxBlocks (length f) in
+      let blocks = box-blocks f h e in
+      let long = length-boxes m (omega arith) in
+      length-append (joined (boxesOf f) m) (replicate (2040 - 510 * m) 0) ∙ omega (arith, long, length-replicate {A = ℕ} (2040 - 510 * m) 0)
+
+pub obeys-rules : ObeysRules
+obeys-rules f h e = (table-long f h e, obeys f h e, zeros-past f h e)
+
+length-formed : (k n : ℕ) (b : List ℕ) → wellFormed k n b ≡ true → length b ≡ 10
+unfolding wellFormed
+length-formed k n b e = eqb-true (length b) 10 (and-left (eqb (length b) 10) (assignmentRule k n b || decisionRule k n b || haltRule b) e)
+
+pub shows-the-box : ShowsTheBox
+shows-the-box f h p e l =
+    let a = accepted f h e in
+    let place = box-is-place f h e p (omega (arith, a .some)) in
+    let ten = length-formed (h .inputs) (h .boxes) (boxOf (tableOf f) p) (obeys f h e p l) in
+    rw (shows-box f p h e l) (ap length (sym place) ∙ ten, sym place)
+
+-- The rules, kind by kind.
+readable-below : (k v : ℕ) → k ≤ 16 → readable k v ≡ true → v < 32
+readable-below k v h e =
+    ⊎-elim
+    (λ input. let l = ltb-true v k input in omega arith)
+    (λ variable. let l = leb-true v 31 (and-right (leb 16 v) (leb v 31) variable) in omega arith)
+    (or-cases (ltb v k) (leb 16 v && leb v 31) e)
+
+operand-below : (k : ℕ) (reads : Bool) (v : ℕ) → k ≤ 16 → operandRule k reads v ≡ true → v < 32
+unfolding operandRule
+operand-below k true v h e = readable-below k v h e
+operand-below k false v h e = let z = eqb-true v 0 e in omega arith
+
+module _ (k n : ℕ) (b : List ℕ) (few : k ≤ 16) where
+  in-range-assign : assignmentRule k n b ≡ true → BoxInRange n b
+  unfolding assignmentRule
+  in-range-assign e =
+      let left = operandRule k (readsLeft (at b 2)) (at b 3) in
+      let right = operandRule k (readsRight (at b 2)) (at b 4) in
+      let constant = eqb (at b 2) 0 || allZero (part b 6 4) in
+      let r = every (eqb (at b 0) 1) (leb 16 (at b 1) ∷ leb (at b 1) 31 ∷ leb (at b 2) 11 ∷ left ∷ right ∷ ltb (at b 5) n ∷ constant ∷ []) e in
+      assignment
+      (eqb-true (at b 0) 1 (r .0))
+      (leb-true 16 (at b 1) (r .1 .0))
+      (let l = leb-true (at b 1) 31 (r .1 .1 .0) in omega arith)
+      (leb-true (at b 2) 11 (r .1 .1 .1 .0))
+      (operand-below k (readsLeft (at b 2)) (at b 3) few (r .1 .1 .1 .1 .0))
+      (operand-below k (readsRight (at b 2)) (at b 4) few (r .1 .1 .1 .1 .1 .0))
+      (ltb-true (at b 5) n (r .1 .1 .1 .1 .1 .1 .0))
+
+  in-range-decide : decisionRule k n b ≡ true → BoxInRange n b
+  unfolding decisionRule
+  in-range-decide e =
+      let r = every (eqb (at b 0) 2) (eqb (at b 1) 0 ∷ leb (at b 2) 2 ∷ readable k (at b 3) ∷ readable k (at b 4) ∷ ltb (at b 5) n ∷ ltb (at b 6) n ∷ allZero (part b 7 3) ∷ []) e in
+      decision
+      (eqb-true (at b 0) 2 (r .0))
+      (leb-true (at b 2) 2 (r .1 .1 .0))
+      (readable-below k (at b 3) few (r .1 .1 .1 .0))
+      (readable-below k (at b 4) few (r .1 .1 .1 .1 .0))
+      (ltb-true (at b 5) n (r .1 .1 .1 .1 .1 .0))
+      (ltb-true (at b 6) n (r .1 .1 .1 .1 .1 .1 .0))
+
+  in-range-halt : haltRule b ≡ true → BoxInRange n b
+  unfolding haltRule
+  in-range-halt e = halt (eqb-true (at b 0) 3 (and-left (eqb (at b 0) 3) (allZero (part b 1 9)) e))
+
+  pub in-range : wellFormed k n b ≡ true → BoxInRange n b
+  unfolding wellFormed
+  in-range e =
+      let kinds = and-right (eqb (length b) 10) (assignmentRule k n b || decisionRule k n b || haltRule b) e in
+      ⊎-elim
+      (λ d. ⊎-elim in-range-assign in-range-decide (or-cases (assignmentRule k n b) (decisionRule k n b) d))
+      in-range-halt
+      (or-cases (assignmentRule k n b || decisionRule k n b) (haltRule b) kinds)
+
+pub stays-in-range : StaysInRange
+stays-in-range f h e =
+    let a = accepted f h e in
+    (record { few = a .few; some = a .some; fits = a .fits; start = a .start }, λ p l. in-range (h .inputs) (h .boxes) (boxOf (tableOf f) p) (a .few) (obeys f h e p l))

@@ -1,0 +1,3 @@
+-- What is claimed of a chart and its file, also at exact bounds.
+pub mod Claims
+pub mod Bounds

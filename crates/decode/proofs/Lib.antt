@@ -1,0 +1,2 @@
+-- What a place of the table holds.
+pub mod Decoded

@@ -1,0 +1,36 @@
+-- "Box bytes, by position": the box that stands at a place of the table, and what it does.
+use Prim.Native.Nat.{ℕ, _+_, _*_}
+use mathlib.Core.List.{List, [], _∷_}
+use mathlib.Core.Bool.{Bool, cond}
+use lib.Dec.{eqb, leb}
+use Rattle.boxes.specs.Bytes.{at, boxOf}
+use Rattle.operations.specs.Operation.{readBy, valueOf, compares}
+use Rattle.decode.specs.declared.FlowBox.{FlowBox}
+use Rattle.decode.specs.declared.FlowBox.the-variants.{Assign, Decide, Halt}
+
+-- "constant, low byte first".
+abbrev pub word : ℕ → ℕ → ℕ → ℕ → ℕ
+word a b c d = a + 256 * b + 65536 * c + 16777216 * d
+
+-- The box of ten bytes. "Assignment: 0 kind 1; 1 target ..; 2 operation; 3 left; 4 right; 5 next box; 6 to 9 constant"; "Decision: 0 kind 2; ..
+-- 2 comparison ..; 3 left; 4 right; 5 next if true; 6 next if false"; a halt otherwise.
+unfoldable pub decode : List ℕ → FlowBox
+decode b =
+    cond (eqb (at b 0) 1) (Assign (at b 1) (at b 2) (at b 3) (at b 4) (at b 5) (word (at b 6) (at b 7) (at b 8) (at b 9)))
+    (cond (eqb (at b 0) 2) (Decide (at b 2) (at b 3) (at b 4) (at b 5) (at b 6)) Halt)
+
+-- The box at number p of a table, which has 204 places. In a held chart every number that is run is below n.
+unfoldable pub boxAt : List ℕ → ℕ → FlowBox
+boxAt table p = cond (leb 204 p) Halt (decode (boxOf table p))
+
+-- What a box does, whatever its bytes: it assigns to a target what the variables that it reads give, it decides by what they compare to, or it
+-- halts.
+pub data Box : Type 0 where
+  assigns : (target : ℕ) (reads : List ℕ) (gives : List ℕ → ℕ) (next : ℕ) → Box
+  decides : (reads : List ℕ) (holds : List ℕ → Bool) (next other : ℕ) → Box
+  halts : Box
+
+unfoldable pub meaning : FlowBox → Box
+meaning (Assign target op left right next constant) = assigns target (readBy op left right) (valueOf op constant) next
+meaning (Decide comparison left right next other) = decides (left ∷ right ∷ []) (compares comparison) next other
+meaning Halt = halts

@@ -1,0 +1,169 @@
+-- `run_box` branches where `act` does, and each branch returns the act of its kind.
+use mathlib.Core.Path.{refl}
+use Rattle.machine.proofs.Acts.{assign-act, notice-act, go-act, halt-notice-act, halt-value-act}
+use borrow.Author.Needs.{needs}
+use Rattle.machine.proofs.run_box.Statement.{statement}
+use Rattle.machine.proofs.run_box.Tie as tie
+
+enum-known-b : tie.Need-enum-known-b
+enum-known-b c = search needs
+
+cast-t : tie.Need-cast-t
+cast-t c = search needs
+
+cast-i : tie.Need-cast-i
+cast-i c = search needs
+
+cast-j : tie.Need-cast-j
+cast-j c = search needs
+
+mul-result : tie.Need-mul-result
+mul-result c = search needs
+
+element-copy-out-result : tie.Need-element-copy-out-result
+element-copy-out-result c = search needs
+
+mul-result-2 : tie.Need-mul-result-2
+mul-result-2 c = search needs
+
+element-copy-out-result-2 : tie.Need-element-copy-out-result-2
+element-copy-out-result-2 c = search needs
+
+result-requires : tie.Need-result-requires
+result-requires c κs = search needs
+
+element-copy-out-read-mark : tie.Need-element-copy-out-read-mark
+element-copy-out-read-mark c = search needs
+
+element-copy-out-read-mark-2 : tie.Need-element-copy-out-read-mark-2
+element-copy-out-read-mark-2 c = search needs
+
+read-mark-requires : tie.Need-read-mark-requires
+read-mark-requires c κs = search needs
+
+element-copy-out-target-mark : tie.Need-element-copy-out-target-mark
+element-copy-out-target-mark c = search needs
+
+target-mark-requires : tie.Need-target-mark-requires
+target-mark-requires c κs = search needs
+
+enum-known-b-2 : tie.Need-enum-known-b-2
+enum-known-b-2 c = search needs
+
+cast-i-2 : tie.Need-cast-i-2
+cast-i-2 c = search needs
+
+cast-j-2 : tie.Need-cast-j-2
+cast-j-2 c = search needs
+
+element-copy-out-read : tie.Need-element-copy-out-read
+element-copy-out-read c = search needs
+
+element-copy-out-read-2 : tie.Need-element-copy-out-read-2
+element-copy-out-read-2 c = search needs
+
+decision-notice-requires : tie.Need-decision-notice-requires
+decision-notice-requires c κs = search needs
+
+returns : tie.Need-returns
+returns c =
+    let noticed = c .before in
+    notice-act _ _ _ _ _ _ _ _ _ _ _ (noticed .before .before .before .before .b2 .given .1) (noticed .decision-notice .ensures) (c .if1 .taken)
+
+mul-compare : tie.Need-mul-compare
+mul-compare c = search needs
+
+element-copy-out-compare : tie.Need-element-copy-out-compare
+element-copy-out-compare c = search needs
+
+mul-compare-2 : tie.Need-mul-compare-2
+mul-compare-2 c = search needs
+
+element-copy-out-compare-2 : tie.Need-element-copy-out-compare-2
+element-copy-out-compare-2 c = search needs
+
+compare-requires : tie.Need-compare-requires
+compare-requires c κs = search needs
+
+way-requires : tie.Need-way-requires
+way-requires c κs = search needs
+
+counter-mark-requires : tie.Need-counter-mark-requires
+counter-mark-requires c κs = search needs
+
+enum-told : tie.Need-enum-told
+enum-told c = search needs
+
+element-copy-out-halt-notice : tie.Need-element-copy-out-halt-notice
+element-copy-out-halt-notice c = search needs
+
+halt-notice-requires : tie.Need-halt-notice-requires
+halt-notice-requires c κs = search needs
+
+returns-2 : tie.Need-returns-2
+returns-2 c =
+    halt-notice-act _ _ _ _ _ _ (c .before .before .before .enum-told .given .1) (c .before .halt-notice .ensures) (c .if2 .taken)
+
+element-copy-out-t68 : tie.Need-element-copy-out-t68
+element-copy-out-t68 c = search needs
+
+returns-3 : tie.Need-returns-3
+returns-3 c =
+    let read = c .before .before in
+    let value = read .before .before .before in
+    assign-act _ _ _ _ _ _ _ _ _ _ _ _ _ _
+    (value .before .before .before .before .b .given .1) (value .result .ensures) (read .read-mark .ensures) (c .target-mark .ensures)
+
+returns-4 : tie.Need-returns-4
+returns-4 c =
+    let compared = c .before .before in
+    let tested = compared .before .before .before in
+    let noticed = tested .before in
+    go-act _ _ _ _ _ _ _ _ _ _ _ (noticed .before .before .before .before .b2 .given .1) (noticed .decision-notice .ensures) _ _ _
+    (tested .if1 .left) (c .counter-mark .ensures) (compared .compare .ensures) (c .before .way .ensures)
+
+returns-5 : tie.Need-returns-5
+returns-5 c =
+    let noticed = c .before .before in
+    halt-value-act _ _ _ _ _ _ (noticed .before .before .enum-told .given .1) (noticed .halt-notice .ensures) _ refl (c .before .if2 .left)
+
+pub run-box-spec : {M : Type 1} → statement M
+run-box-spec =
+    tie.close
+    (tie.spec
+    enum-known-b
+    cast-t
+    cast-i
+    cast-j
+    mul-result
+    element-copy-out-result
+    mul-result-2
+    element-copy-out-result-2
+    result-requires
+    element-copy-out-read-mark
+    element-copy-out-read-mark-2
+    read-mark-requires
+    element-copy-out-target-mark
+    target-mark-requires
+    enum-known-b-2
+    cast-i-2
+    cast-j-2
+    element-copy-out-read
+    element-copy-out-read-2
+    decision-notice-requires
+    returns
+    mul-compare
+    element-copy-out-compare
+    mul-compare-2
+    element-copy-out-compare-2
+    compare-requires
+    way-requires
+    counter-mark-requires
+    enum-told
+    element-copy-out-halt-notice
+    halt-notice-requires
+    returns-2
+    element-copy-out-t68
+    returns-3
+    returns-4
+    returns-5)

@@ -1,0 +1,29 @@
+-- What one box does to a run.
+use Prim.Native.Nat.{ℕ, _%_}
+use mathlib.Core.List.{List, map}
+use mathlib.Core.Bool.{cond}
+use lib.ListN.{getD}
+use Rattle.decode.specs.Decode.{Box, assigns, decides, halts}
+use Rattle.marks.specs.Marks.{marked, union, targetMark, decisionNotice, counterMark, haltNotice}
+use Rattle.marks.specs.declared.Mode.{Mode}
+use Rattle.machine.specs.declared.Act.{Act}
+use Rattle.machine.specs.declared.Act.the-variants.{Store, Go, Value, Notice}
+
+-- A variable's value or mark, by its number: an operand of a held chart is below 32.
+abbrev pub entry : List ℕ → ℕ → ℕ
+entry numbers v = getD numbers (v % 32) 0
+
+-- The values or marks of the variables that a box reads.
+abbrev pub entries : List ℕ → List ℕ → List ℕ
+entries numbers reads = map (entry numbers) reads
+
+-- The act of a box, by the mode, the variables, their marks and the counter mark. It stores a value and a mark, goes to a box with a counter mark,
+-- or ends the run.
+unfoldable pub act : Mode → Box → (vars marks : List ℕ) → ℕ → Act
+act mode (assigns target reads gives next) vars marks counter =
+    Store target (gives (entries vars reads)) (targetMark mode (entry marks target) (union (entries marks reads))) next
+act mode (decides reads holds next other) vars marks counter =
+    let read = union (entries marks reads) in
+    cond (marked (decisionNotice mode read)) Notice
+    (Go (cond (holds (entries vars reads)) next other) (counterMark mode counter read))
+act mode halts vars marks counter = cond (marked (haltNotice mode counter (entry marks 31))) Notice (Value (entry vars 31))

@@ -1,0 +1,2 @@
+-- The rules of the marks.
+pub mod Marks

@@ -1,0 +1,46 @@
+-- The rules of the marks in each mode. A mark is a number, 0 where there is none; these rules see no value.
+use Prim.Native.Nat.{ℕ}
+use mathlib.Core.List.{List, [], _∷_}
+use mathlib.Core.Bool.{Bool, cond, not}
+use lib.Bits.{bitOr}
+use lib.Dec.{eqb}
+use Rattle.marks.specs.declared.Mode.{Mode}
+use Rattle.marks.specs.declared.Mode.the-variants.{Bare, Surveillance, HighWater}
+
+-- "mode (0 bare, 1 surveillance, 2 high-water)". No begin with a greater number is accepted; it would read as high-water.
+unfoldable pub modeOf : ℕ → Mode
+modeOf mode = cond (eqb mode 0) Bare (cond (eqb mode 1) Surveillance HighWater)
+
+abbrev pub marked : ℕ → Bool
+marked mark = not (eqb mark 0)
+
+-- The union of the marks read: marked where any of them is.
+unfoldable pub union : List ℕ → ℕ
+union [] = 0
+union (m ∷ marks) = bitOr m (union marks)
+
+-- A rule by the mode: what it gives bare, under surveillance, and with the high-water mark.
+abbrev pub byMode : {A : Type 0} → Mode → (bare surveillance highWater : A) → A
+byMode Bare bare surveillance highWater = bare
+byMode Surveillance bare surveillance highWater = surveillance
+byMode HighWater bare surveillance highWater = highWater
+
+-- The mark of the target after an assignment, by its mark before and the marks read. Bare has no rule, and the mark stays. "Surveillance: an
+-- assignment marks its target if any variable it reads is marked, and otherwise unmarks it." "High-water: an assignment marks its target if
+-- the target or any variable read is marked."
+abbrev pub targetMark : Mode → (before read : ℕ) → ℕ
+targetMark mode before read = byMode mode before read (bitOr before read)
+
+-- The marks for which a decision gives a notice, 0 where it goes on. Surveillance: "A decision that reads a marked variable ends with a notice, and
+-- no comparison is made."
+abbrev pub decisionNotice : Mode → (read : ℕ) → ℕ
+decisionNotice mode read = byMode mode 0 read 0
+
+-- High-water: "A decision sets the counter mark if it reads a marked variable, then goes on."
+abbrev pub counterMark : Mode → (counter read : ℕ) → ℕ
+counterMark mode counter read = byMode mode counter counter (bitOr counter read)
+
+-- The marks for which a halt gives a notice. "Bare: halt gives the value of variable 31." Surveillance: "Halt gives a notice if 31 is marked, else the value." High-water: "Halt gives a
+-- notice if 31 or the counter is marked, else the value."
+abbrev pub haltNotice : Mode → (counter output : ℕ) → ℕ
+haltNotice mode counter output = byMode mode 0 output (bitOr counter output)

@@ -1,0 +1,71 @@
+// The marks: what an assignment leaves on its target, what a decision and a halt do, by the mode. A mark of 0 is no mark.
+ghost use mathlib.Core.Path.{_≡_};
+ghost use Rattle.operations.specs.Operation.{readBy};
+ghost use Rattle.marks.specs.Marks.{modeOf, union, byMode, targetMark, decisionNotice, counterMark, haltNotice};
+
+pub enum Mode {
+    Bare,
+    Surveillance,
+    HighWater,
+}
+
+// The mode of a number.
+pub fn mode_of(number: u8) -> Mode
+    ensures { λ r. ⌜ r ≡ modeOf number ⌝ }
+{
+    match number {
+        0 => Mode::Bare,
+        1 => Mode::Surveillance,
+        _ => Mode::HighWater,
+    }
+}
+
+// The union of the marks that operation `op` reads, of those of its left and right operands.
+pub fn read_mark(op: u8, left: u8, right: u8) -> u8
+    ensures { λ m. ⌜ m ≡ union (readBy op left right) ⌝ }
+{
+    match op {
+        0 => 0,
+        2..=8 => left | right,
+        _ => left,
+    }
+}
+
+// A rule by the mode.
+fn by_mode(mode: Mode, bare: u8, surveillance: u8, high: u8) -> u8
+    ensures { λ m. ⌜ m ≡ byMode mode bare surveillance high ⌝ }
+{
+    match mode {
+        Mode::Bare => bare,
+        Mode::Surveillance => surveillance,
+        Mode::HighWater => high,
+    }
+}
+
+// The mark of the target after an assignment, from its mark before and the marks read.
+pub fn target_mark(mode: Mode, before: u8, read: u8) -> u8
+    ensures { λ m. ⌜ m ≡ targetMark mode before read ⌝ }
+{
+    by_mode(mode, before, read, before | read)
+}
+
+// The marks for which a decision that reads these ends the run with a notice; 0 where it goes on.
+pub fn decision_notice(mode: Mode, read: u8) -> u8
+    ensures { λ m. ⌜ m ≡ decisionNotice mode read ⌝ }
+{
+    by_mode(mode, 0, read, 0)
+}
+
+// The counter mark after a decision that reads these marks.
+pub fn counter_mark(mode: Mode, counter: u8, read: u8) -> u8
+    ensures { λ m. ⌜ m ≡ counterMark mode counter read ⌝ }
+{
+    by_mode(mode, counter, counter, counter | read)
+}
+
+// The marks for which a halt gives a notice, of the counter mark and the mark of variable 31; 0 where it gives the value.
+pub fn halt_notice(mode: Mode, counter: u8, output: u8) -> u8
+    ensures { λ m. ⌜ m ≡ haltNotice mode counter output ⌝ }
+{
+    by_mode(mode, 0, output, counter | output)
+}

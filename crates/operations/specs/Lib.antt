@@ -1,0 +1,2 @@
+-- The operations and the comparisons.
+pub mod Operation

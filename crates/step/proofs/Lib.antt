@@ -1,2 +1,0 @@
--- The act of a box, case by case.
-pub mod Acts

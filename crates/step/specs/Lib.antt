@@ -1,2 +1,0 @@
--- What one box does.
-pub mod Act

@@ -1,0 +1,45 @@
+// Where each number of what was reached stands among the counts: refusals at their own numbers, 1 to 24, and then the others in the order in
+// which they are printed.
+use told::Encoded;
+use told::kinds;
+
+// Runs begun, by mode.
+pub const BEGUN: u32 = 25;
+
+// Runs ended with a value, by mode; then with a notice, and spent.
+pub const ENDED: u32 = 28;
+
+pub const DROPPED: u32 = 37;
+
+// Answers that are also those of the run advanced at once.
+const ANSWERS: u32 = 38;
+
+// Advances that told running or ended.
+const RUNNING: u32 = 39;
+
+const STOPPED: u32 = 40;
+
+// Files loaded, from 1,024 bytes on by blocks.
+const LOADED: u32 = 41;
+
+const SHOWN: u32 = 45;
+
+const NOT_SHOWN: u32 = 46;
+
+const WRITTEN: u32 = 47;
+
+// Where a call is counted that told this; one that was just done is counted at `done`.
+pub fn place(t: Encoded, done: u32) -> u32 {
+    let kind = t.kind;
+    let first = (t.first % 64) as u32;
+    match kind {
+        kinds::DONE => done,
+        kinds::CHART => LOADED + (t.second % 256 + 50) / 51 - 1,
+        kinds::RUNNING => RUNNING,
+        kinds::ENDED => STOPPED,
+        kinds::REFUSED => first,
+        kinds::WRITTEN => WRITTEN,
+        kinds::SHOWN => if first == 0 { NOT_SHOWN } else { SHOWN },
+        _ => ANSWERS,
+    }
+}

@@ -1,0 +1,64 @@
+// Runs the cases of document 01 that are not marked (P), which standard input has, and random lists of calls, on the runner and on the second
+// interpreter. It stops at the first difference, and else says what was reached.
+mod commands;
+mod compare;
+mod counts;
+mod pair;
+mod random_calls;
+mod report;
+mod text;
+
+use pair::Pair;
+use test_samples::damage;
+use test_samples::files::File;
+use test_samples::files::front;
+use test_samples::random::one_in;
+
+// Where the random numbers start.
+const SEED: u64 = 88172645463325252;
+
+// The random cases are numbered from 1, below this.
+const CASES: u32 = 100000;
+
+// A chart's file and a list of calls with it. The pair is often the one that the case before left.
+fn random_case(pair: Pair, state: &mut u64, file: &mut File) -> Pair {
+    if !pair.same {
+        return pair;
+    }
+    let length = damage::draw(state, file);
+    let now = if one_in(state, 8) { pair.renew() } else { pair };
+    random_calls::list(now, state, front(file, length))
+}
+
+fn random_cases(file: &mut File) -> Pair {
+    let mut state = SEED;
+    let mut p = pair::new();
+    for case in 1..CASES {
+        p = random_case(p.at_case(case), &mut state, file);
+    }
+    p
+}
+
+// The cases of standard input, which has room for fewer than 16,384 bytes.
+fn fixed_cases(file: &mut File) -> bool {
+    let mut text = [0u8; 16384];
+    let length = io::read_full(0, &mut text);
+    if length == 16384 {
+        io::write_all(1, b"standard input is too long\n");
+        return false;
+    }
+    commands::run(text::part(&text, 0, length), file)
+}
+
+fn main() {
+    let mut file: File = [0; 3072];
+    if !fixed_cases(&mut file) {
+        return;
+    }
+    let p = random_cases(&mut file);
+    if p.same {
+        let counts = p.counts;
+        report::totals(&counts);
+        io::write_all(1, b"no difference\n");
+    }
+}

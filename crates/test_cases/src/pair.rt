@@ -1,0 +1,277 @@
+// The runner and the model, which is the second interpreter's, side by side: each call goes to both with the same arguments, what they tell is
+// compared, and what was reached is counted.
+use crate::compare;
+use crate::counts;
+use crate::report;
+use runner::Runner;
+use test_samples::files::byte;
+use test_second::Model;
+use test_second::Turn;
+use told::Encoded;
+use told::kinds;
+
+// `told` is what the last call told, and `whole` the answer of a copy of the model that was advanced at once by the whole limit of the last
+// run. `inputs` and `boxes` are those of the chart held, `mode` that of the last run. `same` becomes false at the first difference; `case` and
+// `calls` say where that is.
+pub struct Pair {
+    runner: Runner,
+    model: Model,
+    told: Encoded,
+    whole: Encoded,
+    pub inputs: u32,
+    pub boxes: u32,
+    mode: u32,
+    case: u32,
+    calls: u32,
+    pub same: bool,
+    pub counts: [u64; 64],
+}
+
+pub fn new() -> Pair {
+    let told = told::make(kinds::DONE, 0, 0);
+    Pair {
+        runner: Runner::new(),
+        model: Model::new(),
+        told,
+        whole: told,
+        inputs: 0,
+        boxes: 0,
+        mode: 0,
+        case: 0,
+        calls: 0,
+        same: true,
+        counts: [0; 64],
+    }
+}
+
+// The ten bytes that the model points at in the file are those of the part that the first implementation returned.
+fn same_part(part: &[u8], file: &[u8], at: usize) -> bool {
+    if at == 0 {
+        return part.len() == 0;
+    }
+    if file.len() < 10 {
+        return false;
+    }
+    if file.len() - 10 < at {
+        return false;
+    }
+    let end = at + 10;
+    check::same(part, &file[at..end])
+}
+
+// What the model tells of a box shown: where its ten bytes start, or 0.
+fn shown(file: &[u8], at: usize) -> Encoded {
+    if at == 0 {
+        return told::make(kinds::SHOWN, 0, 0);
+    }
+    told::make(kinds::SHOWN, 10, byte(file, at))
+}
+
+fn same_buffers(one: &[u8; 2640], two: &[u8; 2640]) -> bool {
+    check::same(one, two)
+}
+
+impl Pair {
+    // The same counts, and a new runner and a new model.
+    pub fn renew(mut self) -> Pair {
+        let runner = Runner::new();
+        let model = Model::new();
+        self.runner = runner;
+        self.model = model;
+        self.inputs = 0;
+        self.boxes = 0;
+        self
+    }
+
+    // The next random case.
+    pub fn at_case(mut self, case: u32) -> Pair {
+        self.case = case;
+        self.calls = 0;
+        self
+    }
+
+    fn count(mut self, place: u32) -> Pair {
+        let at = (place % 64) as usize;
+        self.counts[at] = std::num::wrapping_add_u64(self.counts[at], 1);
+        self
+    }
+
+    // A difference, which is told once.
+    pub fn differ(mut self, what: &[u8], first: Encoded, second: Encoded) -> Pair {
+        if self.same {
+            report::difference(what, self.case, self.calls, first, second);
+        }
+        self.same = false;
+        self
+    }
+
+    // What both told is compared, kept and counted; of a call that is just done, at `done`.
+    fn settle(mut self, what: &[u8], first: Encoded, model: test_second::Told, done: u32) -> Pair {
+        let second = compare::of_model(model);
+        self.told = first;
+        self.calls = std::num::wrapping_add_u32(self.calls, 1);
+        if !compare::same(first, second) {
+            return self.differ(what, first, second);
+        }
+        self.count(counts::place(first, done))
+    }
+
+    // The same of a call that changes both.
+    fn turn(mut self, what: &[u8], next: Runner, first: Encoded, turn: Turn, done: u32) -> Pair {
+        let model = turn.model;
+        self.runner = next;
+        self.model = model;
+        self.settle(what, first, turn.told, done)
+    }
+
+    pub fn load(self, file: &[u8]) -> Pair {
+        let loaded = self.runner.load(file);
+        let next = loaded.runner;
+        let t = loaded.told;
+        self.turn(b"load", next, told::of_load(t), self.model.load(file), 0)
+            .hold()
+    }
+
+    // After a load: the numbers of the chart held.
+    fn hold(mut self) -> Pair {
+        let t = self.told;
+        if t.kind == kinds::CHART {
+            self.inputs = (t.first % 256) as u32;
+            self.boxes = t.second;
+        }
+        self
+    }
+
+    pub fn begin(self, mode: u32, inputs: &[u32], allowed: u32, limit: u32) -> Pair {
+        let begun = self.runner.begin(mode, inputs, allowed, limit);
+        let turn = self.model.begin(mode, inputs, allowed, limit);
+        let next = begun.runner;
+        let t = begun.told;
+        self.turn(
+                b"begin",
+                next,
+                told::of_verdict(t),
+                turn,
+                counts::BEGUN + mode % 3,
+            )
+            .go_ahead(mode, limit)
+    }
+
+    // After a begin: a copy of the model is advanced at once by its whole limit, which ends the run.
+    fn go_ahead(mut self, mode: u32, limit: u32) -> Pair {
+        let begun = self.told;
+        if begun.kind != kinds::DONE {
+            return self;
+        }
+        let most = if limit == 0 { 4096 } else { limit };
+        let turn = self.model.advance(most);
+        let t = compare::of_model(turn.told);
+        let whole = compare::of_model(turn.model.answer());
+        self.whole = whole;
+        self.mode = mode % 3;
+        if t.kind != kinds::ENDED {
+            return self.differ(b"the limit at once", begun, t);
+        }
+        self
+    }
+
+    pub fn advance(self, m: u32) -> Pair {
+        let advanced = self.runner.advance(m);
+        let next = advanced.runner;
+        let t = advanced.told;
+        self.turn(
+                b"advance",
+                next,
+                told::of_advance(t),
+                self.model.advance(m),
+                0,
+            )
+            .end()
+    }
+
+    // After an advance: of a run that has ended the answer is compared at once, and counted by mode and kind. What the advance told stays the
+    // last told.
+    fn end(self) -> Pair {
+        let told = self.told;
+        let mode = self.mode % 3;
+        if told.kind != kinds::ENDED {
+            return self;
+        }
+        let mut pair = self.answer();
+        let answer = pair.told;
+        let kind = answer.kind;
+        pair.told = told;
+        match kind {
+            kinds::VALUE | kinds::NOTICE | kinds::SPENT => {
+                pair.count(counts::ENDED + 3 * (kind - kinds::VALUE) + mode)
+            }
+            _ => pair.differ(b"answer after the end", answer, answer),
+        }
+    }
+
+    // The answer does not depend on the cuts: it is also that of the whole limit at once.
+    pub fn answer(self) -> Pair {
+        let whole = self.whole;
+        let first = told::of_answer(self.runner.answer());
+        let pair = self.settle(b"answer", first, self.model.answer(), 0);
+        if (first.kind == kinds::REFUSED) | compare::same(first, whole) {
+            return pair;
+        }
+        pair.differ(b"answer after the limit at once", first, whole)
+    }
+
+    pub fn abandon(self) -> Pair {
+        let dropped = self.runner.abandon();
+        let next = dropped.runner;
+        let t = dropped.told;
+        self.turn(
+            b"abandon",
+            next,
+            told::of_verdict(t),
+            self.model.abandon(),
+            counts::DROPPED,
+        )
+    }
+
+    // Write back into buffers filled with one byte. The part lent starts at `from`, below 40, and has `room` bytes, at most 2,600.
+    pub fn write_back(self, from: usize, room: usize, byte: u8) -> Pair {
+        let start = from % 40;
+        let end = start + room % 2601;
+        let mut one = [byte; 2640];
+        let mut two = [byte; 2640];
+        let first = told::of_written(self.runner.write_back(&mut one[start..end]));
+        let second = self.model.write_back(&mut two[start..end]);
+        let alike = same_buffers(&one, &two);
+        let pair = self.settle(b"write back", first, second, 0);
+        if alike {
+            return pair;
+        }
+        pair.differ(b"buffer after write back", first, first)
+    }
+
+    // Show a box: told as the length of the part and its first byte, and the bytes are compared.
+    pub fn show(mut self, file: &[u8], number: u32) -> Pair {
+        let part = chart::show_box(file, number);
+        let at = test_second::show(file, number);
+        let first = told::make(kinds::SHOWN, part.len() as u64, byte(part, 0));
+        let second = shown(file, at);
+        self.told = first;
+        self.calls = std::num::wrapping_add_u32(self.calls, 1);
+        if same_part(part, file, at) & compare::same(first, second) {
+            return self.count(counts::place(first, 0));
+        }
+        self.differ(b"show", first, second)
+    }
+
+    // Both told what a fixed case says, whose line is printed.
+    pub fn expect(mut self, name: &[u8], expected: Encoded) -> Pair {
+        let told = self.told;
+        if compare::same(expected, told) {
+            report::case(name, expected);
+            return self;
+        }
+        report::unexpected(name, expected, told);
+        self.same = false;
+        self
+    }
+}

@@ -1,0 +1,104 @@
+// What the program prints: cases, differences, and what was reached.
+use crate::text::part;
+use crate::text::piece;
+use told::Encoded;
+
+fn say(words: &[u8]) {
+    io::write_all(1, words);
+}
+
+fn at(numbers: &[u64], i: usize) -> u64 {
+    if i < numbers.len() {
+        return numbers[i];
+    }
+    0
+}
+
+// A text, in which each % stands for the next of some numbers.
+fn fill(text: &[u8], numbers: &[u64]) {
+    let mut start: usize = 0;
+    let mut next: usize = 0;
+    let mut i: usize = 0;
+    while i < text.len() {
+        if text[i] == b'%' {
+            say(part(text, start, i));
+            io::print_decimal(1, at(numbers, next));
+            next = std::num::wrapping_add_usize(next, 1);
+            start = i + 1;
+        }
+        i += 1;
+    }
+    say(part(text, start, text.len()));
+}
+
+// What a call told, in the words of the run program: a line of `texts` for each kind, in the order of their numbers.
+fn print_told(t: Encoded) {
+    let texts = b"done
+chart inputs % boxes %
+running steps %
+ended steps %
+value % steps %
+notice steps %
+spent steps %
+refused % detail %
+written %
+shown bytes % kind %";
+    let numbers = [t.first, t.second as u64];
+    fill(piece(texts, t.kind, b'\n'), &numbers);
+}
+
+pub fn case(name: &[u8], t: Encoded) {
+    say(name);
+    say(b": ");
+    print_told(t);
+    say(b"\n");
+}
+
+// A case that told something else than is expected.
+pub fn unexpected(name: &[u8], expected: Encoded, t: Encoded) {
+    say(b"difference: ");
+    case(name, expected);
+    case(b"  told", t);
+}
+
+// A difference at a call of a random case; the fixed cases are case 0.
+pub fn difference(what: &[u8], number: u32, call: u32, first: Encoded, second: Encoded) {
+    say(b"difference: ");
+    say(what);
+    fill(b", case %, call %\n", &[number as u64, call as u64]);
+    case(b"  runner", first);
+    case(b"  model", second);
+}
+
+// The numbers 1 to 24, but 11, which is the run program's, and those that no refusal has.
+fn is_refusal(i: u64) -> bool {
+    (i <= 10) | (i == 12) | (20 < i)
+}
+
+fn refusals(counts: &[u64; 64]) {
+    for i in 1..25 {
+        if is_refusal(i) {
+            fill(b"refused %: %\n", &[i, at(counts, i as usize)]);
+        }
+    }
+}
+
+// What the random cases reached.
+pub fn totals(counts: &[u64; 64]) {
+    let all: &[u64] = counts;
+    fill(
+        b"runs begun: bare %, surveillance %, high-water %
+ended with a value: bare %, surveillance %, high-water %
+ended with a notice: bare %, surveillance %, high-water %
+ended spent: bare %, surveillance %, high-water %
+dropped: %
+answers compared: %
+advances: running %, ended %
+files loaded: 1024 bytes %, 1536 bytes %, 2048 bytes %, 2560 bytes %
+boxes: shown %, not shown %
+files written back: %
+",
+        &all[25..48],
+    );
+    refusals(counts);
+}
