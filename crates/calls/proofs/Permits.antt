@@ -1,8 +1,8 @@
--- What an accepted begin says of its arguments: each of its rules has been kept. And which calls a run under way refuses. Assumes nothing.
+-- What an accepted begin and an accepted write back say of their arguments: each of their rules has been kept. Assumes nothing.
 use Prim.Native.Nat.{ℕ, _/_, _^_, _≤_}
-use mathlib.Core.Path.{_≡_, refl, sym, _∙_}
+use mathlib.Core.Path.{_≡_, refl}
 use mathlib.Core.List.{List}
-use mathlib.Core.Bool.{Bool, true, false, not, true≢false}
+use mathlib.Core.Bool.{Bool, true, false, not}
 use native.Mathlib.Omega.{arith}
 use lib.Dec.{eqb, ltb}
 use lib.ListN.{length}
@@ -32,13 +32,6 @@ pub record Permitted (h : Header) (mode : ℕ) (inputs : List ℕ) (allowed limi
   pub fits : limit ≤ 65535
 
 module _ (mode : ℕ) (inputs : List ℕ) (allowed limit : ℕ) (s : Standing) (e : check (begin mode inputs allowed limit) s ≡ Done) where
-  past-state : (inRange (s .header) ≡ true) × (s .running ≡ false)
-  unfolding check
-  past-state =
-      let one = passed (not (inRange (s .header))) 21 e in
-      let two = passed (s .running) 22 (one .1) in
-      (not-false _ (one .0), two .0)
-
   pub permitted : Permitted (s .header) mode inputs allowed limit
   unfolding check
   permitted =
@@ -55,10 +48,6 @@ module _ (mode : ℕ) (inputs : List ℕ) (allowed limit : ℕ) (s : Standing) (
         below = eqb-true _ _ (not-false _ (five .0));
         fits = ltb-false 65535 limit (six .0);
       }
-
-  -- A run that is under way keeps another from beginning.
-  pub no-begin-under-way : s .running ≡ true → ⊥
-  no-begin-under-way r = true≢false (sym r ∙ past-state .1)
 
 -- An accepted write back has a chart and room for its file.
 pub write-back-fits : (buffer : List ℕ) (s : Standing) → check (writeBack buffer) s ≡ Done

@@ -1,14 +1,10 @@
--- What an accepted call does, and which calls a run under way refuses. Assumes nothing.
-use Prim.Native.Nat.{ℕ}
+-- What an accepted call does, and that a run under way is not answered. Assumes nothing.
 use mathlib.Core.Path.{_≡_, ap}
-use mathlib.Core.List.{List}
-use mathlib.Core.Bool.{Bool, true}
-use Rattle.calls.specs.Calls.{Call, load, begin, answer, check}
+use Rattle.calls.specs.Calls.{Call, answer, check}
 use Rattle.calls.specs.declared.Verdict.{Verdict}
 use Rattle.calls.specs.declared.Verdict.the-variants.{Done}
-use Rattle.calls.proofs.Permits.{not-done, no-begin-under-way}
+use Rattle.calls.proofs.Permits.{not-done}
 use Rattle.runner.specs.declared.Runner.{Runner}
-use Rattle.runner.specs.State.{isRunning, standingOf}
 use Rattle.runner.specs.Outcomes.{outcomeBy, call}
 use Rattle.claims.specs.Lists.{Accepted}
 
@@ -16,14 +12,6 @@ pub call-done : (c : Call) (r : Runner) → Accepted c r → call c r ≡ outcom
 unfolding call
 call-done c r e = ap (λ (v : Verdict). outcomeBy v c r) e
 
-module _ (r : Runner) (h : r .state ≡ 1) where
-  pub no-load : (file : List ℕ) → Accepted (load file) r → ⊥
-  unfolding check
-  no-load file e = not-done (rw h at e)
-
-  pub no-begin : (mode : ℕ) (inputs : List ℕ) (allowed limit : ℕ) → Accepted (begin mode inputs allowed limit) r → ⊥
-  no-begin mode inputs allowed limit e = no-begin-under-way mode inputs allowed limit (standingOf r) e (rw h)
-
-  pub no-answer : Accepted answer r → ⊥
-  unfolding check
-  no-answer e = not-done (rw h at e)
+pub no-answer : (r : Runner) → r .state ≡ 1 → Accepted answer r → ⊥
+unfolding check
+no-answer r h e = not-done (rw h at e)

@@ -1,11 +1,10 @@
 -- Lists of advances, answers, write backs and refused calls only run boxes: as many as the advances ask for, or fewer where the run ends.
 -- Assumes nothing.
-use Prim.Native.Nat.{ℕ, zero, suc, _+_}
+use Prim.Native.Nat.{ℕ, _+_}
 use mathlib.Core.Path.{_≡_, refl, ap, sym, _∙_, subst}
 use mathlib.Core.List.{List, [], _∷_, List·Memᴰ, List·Memᴰ·cases-cons, List·Memᴰ·not-nil}
 use mathlib.Core.Logic.{⊎-elim}
-use mathlib.Core.Bool.{Bool, true, false}
-use lib.Dec.{eqb}
+use mathlib.Core.Bool.{true, false}
 use Rattle.format.specs.File.{refusal}
 use Rattle.machine.specs.Run.{Run, Ending, valued, notice, spent, Progress, going, over, run}
 use Rattle.machine.proofs.Runs.{run-add, over-still}

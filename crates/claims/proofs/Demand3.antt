@@ -16,7 +16,7 @@ use Rattle.runner.specs.declared.Runner.{Runner}
 use Rattle.runner.specs.State.{chartIn, standingOf, ran, resumed}
 use Rattle.runner.specs.Whole.{startOf}
 use Rattle.runner.specs.Outcomes.{ending, Told, progressReply, says, outcomeBy, call}
-use Rattle.claims.specs.Lists.{Accepted, begun, tells, final, AllContinue, asked}
+use Rattle.claims.specs.Lists.{Accepted, tells, AllContinue, asked}
 use Rattle.claims.specs.Demand3.{tellsValue, AnswersAsHighWater, Demand3}
 use Rattle.claims.proofs.Branches.{clash}
 use Rattle.claims.proofs.Counting.{Over, run-ends}

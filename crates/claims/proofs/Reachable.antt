@@ -33,7 +33,7 @@ use Rattle.calls.specs.declared.Verdict.{Verdict}
 use Rattle.calls.specs.declared.Verdict.the-variants.{Done, Refused}
 use Rattle.calls.proofs.Permits.{not-done, passed, permitted}
 use Rattle.runner.specs.declared.Runner.{Runner}
-use Rattle.runner.specs.State.{chartIn, isHeld, isRunning, isEnded, standingOf, endingIn, runnerOf, underWay, runIn, idle, newRunner, endedWith, dropped, ran, resumed}
+use Rattle.runner.specs.State.{chartIn, isHeld, isRunning, isEnded, standingOf, endingIn, runnerOf, underWay, idle, newRunner, endedWith, dropped, ran, resumed}
 use Rattle.runner.specs.Whole.{startOf}
 use Rattle.runner.specs.Outcomes.{after, outcomeBy, call}
 use Rattle.claims.specs.Lists.{Reached, fresh, then}

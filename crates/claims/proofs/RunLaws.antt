@@ -17,13 +17,13 @@ use Rattle.calls.specs.declared.Verdict.{Verdict}
 use Rattle.calls.specs.declared.Verdict.the-variants.{Done, Refused}
 use Rattle.runner.specs.declared.Runner.{Runner}
 use Rattle.runner.specs.State.{chartIn, isRunning, standingOf, runIn, endedWith, ran, resumed}
-use Rattle.runner.specs.Whole.{startOf, finish, whole}
+use Rattle.runner.specs.Whole.{finish, whole}
 use Rattle.runner.specs.Outcomes.{Reply, running, ended, ending, refused, Told, Outcome, lent, after, progressReply, says, outcomeBy, call}
 use Rattle.claims.specs.Lists.{Accepted, tells, AllContinue, asked}
 use Rattle.claims.specs.Runs.{NoOperationStops, RefusalChangesNothing, AdvancesJoin, CountsBoxes, LimitEnds, TellsWholeRun, stepsTold, WithinLimit, Cleared}
 use Rattle.claims.proofs.Branches.{clash}
 use Rattle.claims.proofs.Accepting.{call-done}
-use Rattle.claims.proofs.Counting.{EndedIn, After, ended-within, counted-below, run-after, Over, run-ends}
+use Rattle.claims.proofs.Counting.{After, ended-within, counted-below, run-after, Over, run-ends}
 use Rattle.claims.proofs.Continuing.{over-rests, over-answers, over-says, over-tells, over-does-not-advance, going-ran, going-does-not-answer, answered-over, told-at, from-start, final-from}
 use Rattle.claims.proofs.Reachable.{sound}
 use Rattle.claims.proofs.Secrecy.{begin-starts, started}

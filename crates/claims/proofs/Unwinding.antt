@@ -1,7 +1,7 @@
 -- Unwinding for surveillance. Two runs are low-equal when they are the same, or both are under way under surveillance and differ only in variables
 -- that are marked. A box keeps that (step consistency), so does every call, and every call tells the same (output consistency); then one induction
 -- over the list. Assumes nothing.
-use Prim.Native.Nat.{ℕ, zero, suc, _+_, _%_}
+use Prim.Native.Nat.{ℕ, zero, suc, _%_}
 use mathlib.Core.Path.{_≡_, refl, ap, sym, subst}
 use mathlib.Core.List.{List, [], _∷_}
 use mathlib.Core.Bool.{Bool, true, false, cond}
@@ -10,21 +10,20 @@ use lib.ListN.{length, getD, set, length-set}
 use Rattle.chart.specs.WriteBack.{withFile}
 use Rattle.decode.specs.Decode.{boxAt, Box, assigns, decides, halts, meaning}
 use Rattle.marks.specs.Marks.{modeOf, marked, union}
-use Rattle.marks.specs.declared.Mode.{Mode}
 use Rattle.marks.specs.declared.Mode.the-variants.{Surveillance}
 use Rattle.marks.proofs.MarkLaws.{union-none, marked-none}
 use Rattle.machine.specs.Act.{entry, entries, act}
-use Rattle.machine.specs.Run.{Run, Progress, going, over, moved, goesOn, settle, step, onward, run}
+use Rattle.machine.specs.Run.{Run, Progress, going, over, goesOn, settle, step, onward, run}
 use Rattle.machine.specs.declared.Act.the-variants.{Go, Value, Notice}
 use Rattle.calls.specs.Calls.{Call, load, begin, advance, answer, abandon, writeBack, check}
 use Rattle.calls.specs.declared.Verdict.{Verdict}
 use Rattle.calls.specs.declared.Verdict.the-variants.{Done, Refused}
 use Rattle.runner.specs.declared.Runner.{Runner}
 use Rattle.runner.specs.State.{chartIn, standingOf, runnerOf, runIn, endedWith, dropped, resumed}
-use Rattle.runner.specs.Outcomes.{Reply, Told, Outcome, Effect, runs, keeps, begins, drops, replaces, effect, after, progressReply, says, lentAs, outcomeBy, call}
+use Rattle.runner.specs.Outcomes.{Reply, Outcome, Effect, runs, keeps, begins, drops, replaces, effect, after, progressReply, says, lentAs, outcomeBy, call}
 use Rattle.claims.specs.Lists.{tells}
 use Rattle.claims.proofs.Branches.{cond-both, set-each}
-use Rattle.claims.proofs.Accepting.{no-load, no-begin, no-answer}
+use Rattle.claims.proofs.Accepting.{no-answer}
 
 -- Two lists of values that agree wherever there is no mark.
 pub record Agree (marks v w : List ℕ) : Type 0 where

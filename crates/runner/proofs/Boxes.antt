@@ -19,7 +19,7 @@ use Rattle.machine.proofs.Runs.{over-still, run-one}
 use Rattle.calls.specs.Calls as calls
 use Rattle.runner.specs.declared.Runner.{Runner}
 use Rattle.runner.specs.declared.AdvanceTold.{AdvanceTold}
-use Rattle.runner.specs.State.{chartIn, isRunning, stateOf, valueIn, runnerOf, runIn, noRun, endedWith, ran, resumed}
+use Rattle.runner.specs.State.{chartIn, isRunning, stateOf, valueIn, runnerOf, runIn, noRun, endedWith, resumed}
 use Rattle.runner.specs.Outcomes.{outcome, progressReply, call}
 use Rattle.runner.specs.Outcomes as outcomes
 use Rattle.runner.specs.Replies.{advanceReply}

@@ -1,9 +1,8 @@
 -- The outcome of each call, case by case, over plain variables: what the proof of a method cites where it returns. Assumes nothing.
 use Prim.Native.Nat.{ℕ, _≤_, _<_}
-use mathlib.Core.Path.{_≡_, refl, ap, sym, _∙_}
+use mathlib.Core.Path.{_≡_, ap, sym, _∙_}
 use mathlib.Core.List.{List, []}
-use mathlib.Core.Bool.{Bool, true, false, cond}
-use lib.ListN.{length}
+use mathlib.Core.Bool.{true, false}
 use borrow.Author.Tests.{le-leb, lt-leb, eq-eqb, ne-eqb}
 use Rattle.format.specs.File.{checkFile, refusal}
 use Rattle.format.specs.declared.Header.{Header}
@@ -11,11 +10,11 @@ use Rattle.format.specs.declared.Refusal.{Refusal}
 use Rattle.format.specs.declared.Checked.the-variants as checked
 use Rattle.format.proofs.Accepted.{accepted}
 use Rattle.chart.specs.Chart.{tableOf}
-use Rattle.chart.specs.WriteBack.{fileLength, withFile, putFile}
+use Rattle.chart.specs.WriteBack.{fileLength, putFile}
 use Rattle.chart.proofs.Writes.{put-fits}
-use Rattle.machine.specs.Run.{Run, Progress, going}
+use Rattle.machine.specs.Run.{Progress}
 use Rattle.begin.specs.Begin.{effective, firstVars, firstMarks}
-use Rattle.calls.specs.Calls.{Call, refuse, standing, fileVerdict, check}
+use Rattle.calls.specs.Calls.{Call, refuse, fileVerdict, check}
 use Rattle.calls.specs.Calls as calls
 use Rattle.calls.specs.declared.Verdict.{Verdict}
 use Rattle.calls.specs.declared.Verdict.the-variants.{Done, Refused}
@@ -25,7 +24,7 @@ use Rattle.runner.specs.declared.LoadTold.the-variants as load
 use Rattle.runner.specs.declared.AdvanceTold.{AdvanceTold}
 use Rattle.runner.specs.declared.AnswerTold.the-variants as answer
 use Rattle.runner.specs.declared.Written.the-variants as written
-use Rattle.runner.specs.State.{chartIn, isRunning, isEnded, standingOf, endingIn, runnerOf, idle, dropped, ran, resumed}
+use Rattle.runner.specs.State.{chartIn, isRunning, standingOf, endingIn, runnerOf, idle, dropped, ran, resumed}
 use Rattle.runner.specs.Outcomes.{outcome, after, progressReply, says, outcomeBy, call}
 use Rattle.runner.specs.Outcomes as outcomes
 use Rattle.runner.specs.Replies.{loadReply, verdictReply, advanceReply, answerReply, writtenReply}

@@ -1,7 +1,6 @@
 -- "The runner holds the box table, the 32 variables and their marks, the counter mark and the ending, besides the few numbers the rules
 -- need." Those are the header of the chart; of a run under way the mode, the box at hand, the limit and the steps so far; and what state it is in.
 use Prim.Native.Nat.{ℕ}
-use mathlib.Core.List.{List}
 use mathlib.Core.Bool.{Bool, cond}
 use lib.Dec.{eqb, leb}
 use lib.ListN.{replicate}
