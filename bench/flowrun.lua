@@ -1,7 +1,7 @@
 -- The run program in Lua, by the scope document's rules, for LuaJIT: numbers of 32 bits are doubles from 0 to 4294967295.
 local bit = require("bit")
 local floor, min, max = math.floor, math.min, math.max
-local band, rshift = bit.band, bit.rshift
+local band, bor, bnot, lshift = bit.band, bit.bor, bit.bnot, bit.lshift
 
 
 local function product(x, y)
@@ -77,10 +77,12 @@ local function load_chart(file)
   return { k = k, n = n, first = first, boxes = boxes }
 end
 
+-- A mark is a set of withheld inputs: bit j is input j, 0 is no mark.
 local vars, marks = {}, {}
 
+-- The ending, the value or the set that a notice names, and the steps.
 local function run(chart, mode, limit)
-  local at, steps, counter = chart.first, 0, false
+  local at, steps, counter = chart.first, 0, 0
   local boxes = chart.boxes
   while true do
     local b = boxes[at]
@@ -89,7 +91,8 @@ local function run(chart, mode, limit)
     if kind == 1 then
       local op, i, j, t = b[3], b[4], b[5], b[2]
       local x, y = vars[i], vars[j]
-      local read = (op ~= 0 and marks[i]) or (op >= 2 and op <= 8 and marks[j])
+      local read = 0
+      if op >= 2 and op <= 8 then read = bor(marks[i], marks[j]) elseif op ~= 0 then read = marks[i] end
       local v
       if op == 0 then v = b[8]
       elseif op == 1 then v = x
@@ -104,18 +107,20 @@ local function run(chart, mode, limit)
       elseif op == 10 then v = leading(x)
       else v = trailing(x) end
       vars[t] = v
-      if mode == 1 then marks[t] = read elseif mode == 2 then marks[t] = marks[t] or read end
+      if mode == 1 then marks[t] = read elseif mode == 2 then marks[t] = bor(marks[t], read) end
       at = b[6]
     elseif kind == 2 then
-      local read = marks[b[4]] or marks[b[5]]
-      if mode == 1 and read then return "notice", 0, steps end
-      if mode == 2 then counter = counter or read end
+      local read = bor(marks[b[4]], marks[b[5]])
+      if mode == 1 and read ~= 0 then return "notice", read, steps end
+      if mode == 2 then counter = bor(counter, read) end
       local x, y = vars[b[4]], vars[b[5]]
       local holds
       if b[3] == 0 then holds = x == y elseif b[3] == 1 then holds = x < y else holds = x <= y end
       at = holds and b[6] or b[7]
     else
-      if (mode == 1 and marks[31]) or (mode == 2 and (marks[31] or counter)) then return "notice", 0, steps end
+      local output = marks[31]
+      if mode == 1 and output ~= 0 then return "notice", output, steps end
+      if mode == 2 and bor(output, counter) ~= 0 then return "notice", 0, steps end
       return "value", vars[31], steps
     end
     if steps >= limit then return "spent", 0, steps end
@@ -148,15 +153,16 @@ local function respond(chart, line, number)
   if limit > 65535 then return "refused 10 detail 0\n" end
   for v = 0, 31 do
     vars[v] = 0
-    marks[v] = false
+    marks[v] = 0
   end
   for j = 0, k - 1 do
     vars[j] = numbers[4 + j]
-    marks[j] = band(rshift(allowed, j), 1) == 0
+    marks[j] = band(bnot(allowed), lshift(1, j))
   end
   local kind, value, steps = run(chart, mode, limit == 0 and 4096 or limit)
   if kind == "value" then return string.format("value %.0f steps %d\n", value, steps) end
-  return kind .. " steps " .. steps .. "\n"
+  if kind == "notice" then return "notice steps " .. steps .. " inputs " .. value .. "\n" end
+  return "spent steps " .. steps .. "\n"
 end
 
 local file = io.open("chart.bin", "rb")

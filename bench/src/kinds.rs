@@ -11,7 +11,7 @@ pub fn numbers(told: Told) -> [u32; 3] {
         Told::Running(steps) => [2, steps, 0],
         Told::Ended(steps) => [3, steps, 0],
         Told::Value { value, steps } => [4, value, steps],
-        Told::Notice(steps) => [5, steps, 0],
+        Told::Notice { steps, named } => [5, steps, named.into()],
         Told::Spent(steps) => [6, steps, 0],
         Told::Refused(number, detail) => [7, number, detail],
         Told::Written(length) => [8, length as u32, 0],

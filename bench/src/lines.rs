@@ -29,7 +29,7 @@ pub fn print(out: &mut impl Write, told: Told) -> io::Result<()> {
     match told {
         Told::Chart { inputs, boxes } => writeln!(out, "chart inputs {inputs} boxes {boxes}"),
         Told::Value { value, steps } => writeln!(out, "value {value} steps {steps}"),
-        Told::Notice(steps) => writeln!(out, "notice steps {steps}"),
+        Told::Notice { steps, named } => writeln!(out, "notice steps {steps} inputs {named}"),
         Told::Spent(steps) => writeln!(out, "spent steps {steps}"),
         Told::Refused(number, detail) => writeln!(out, "refused {number} detail {detail}"),
         _ => Ok(()),

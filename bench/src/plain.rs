@@ -1,6 +1,6 @@
 //! Charts by the scope document, in plain Rust: the runner behind `&mut self`, the boxes read out of the same byte table.
 
-/// What a call tells: a refusal is its number and detail.
+/// What a call tells: a refusal is its number and detail; a notice names a set of withheld inputs, of which bit j is input j.
 #[derive(Clone, Copy, PartialEq, Eq, Debug)]
 pub enum Told {
     Done,
@@ -8,7 +8,7 @@ pub enum Told {
     Running(u32),
     Ended(u32),
     Value { value: u32, steps: u32 },
-    Notice(u32),
+    Notice { steps: u32, named: u16 },
     Spent(u32),
     Written(usize),
     Refused(u32, u32),
@@ -23,11 +23,12 @@ pub enum State {
     Spent,
 }
 
+/// A mark is a set of withheld inputs, 0 where there is none; `named` is the set of the notice told, 0 without one.
 pub struct Runner {
     table: [u8; 2040],
     vars: [u32; 32],
-    marks: [u8; 32],
-    counter: u8,
+    marks: [u16; 32],
+    counter: u16,
     inputs: u8,
     boxes: u8,
     first: u8,
@@ -36,6 +37,7 @@ pub struct Runner {
     limit: u32,
     steps: u32,
     value: u32,
+    named: u16,
     state: State,
 }
 
@@ -133,16 +135,18 @@ impl Runner {
             limit: 0,
             steps: 0,
             value: 0,
+            named: 0,
             state: State::Resting,
         }
     }
 
-    fn rest(&mut self, state: State, value: u32) {
+    fn rest(&mut self, state: State, value: u32, named: u16) {
         self.vars = [0; 32];
         self.marks = [0; 32];
         self.counter = 0;
         self.state = state;
         self.value = value;
+        self.named = named;
     }
 
     pub fn load(&mut self, file: &[u8]) -> Told {
@@ -157,7 +161,7 @@ impl Runner {
                     to.copy_from_slice(&block[..510]);
                 }
                 (self.inputs, self.boxes, self.first) = (inputs, boxes, first);
-                self.rest(State::Resting, 0);
+                self.rest(State::Resting, 0, 0);
                 Told::Chart { inputs, boxes }
             }
         }
@@ -186,8 +190,9 @@ impl Runner {
         self.vars = [0; 32];
         self.vars[..inputs.len()].copy_from_slice(inputs);
         self.marks = [0; 32];
+        let withheld = !allowed as u16;
         for j in 0..inputs.len() {
-            self.marks[j] = u8::from(allowed >> j & 1 == 0);
+            self.marks[j] = withheld & 1 << j;
         }
         self.counter = 0;
         self.mode = mode as u8;
@@ -195,6 +200,7 @@ impl Runner {
         self.limit = if limit == 0 { 4096 } else { limit };
         self.steps = 0;
         self.value = 0;
+        self.named = 0;
         self.state = State::Running;
         Told::Done
     }
@@ -230,12 +236,12 @@ impl Runner {
         self.at = b[5];
     }
 
-    /// Runs the box at hand; an ending, if it is one.
-    fn step(&mut self) -> Option<(State, u32)> {
+    /// Runs the box at hand; an ending with its value and the set it names, if it is one.
+    fn step(&mut self) -> Option<(State, u32, u16)> {
         let p = 10 * usize::from(self.at);
         let b: [u8; 10] = match self.table.get(p..p + 10) {
             Some(b) => b.try_into().unwrap(),
-            None => return Some((State::Notice, 0)),
+            None => return Some((State::Notice, 0, 0)),
         };
         match b[0] {
             1 => self.assign(b),
@@ -243,7 +249,7 @@ impl Runner {
                 let (i, j) = (usize::from(b[3] % 32), usize::from(b[4] % 32));
                 let read = self.marks[i] | self.marks[j];
                 if self.mode == 1 && read != 0 {
-                    return Some((State::Notice, 0));
+                    return Some((State::Notice, 0, read));
                 }
                 if self.mode == 2 {
                     self.counter |= read;
@@ -257,12 +263,12 @@ impl Runner {
                 self.at = if holds { b[5] } else { b[6] };
             }
             _ => {
-                let notice = match self.mode {
-                    0 => false,
-                    1 => self.marks[31] != 0,
-                    _ => self.marks[31] | self.counter != 0,
-                };
-                return Some(if notice { (State::Notice, 0) } else { (State::Value, self.vars[31]) });
+                let output = self.marks[31];
+                return Some(match self.mode {
+                    1 if output != 0 => (State::Notice, 0, output),
+                    2 if output | self.counter != 0 => (State::Notice, 0, 0),
+                    _ => (State::Value, self.vars[31], 0),
+                });
             }
         }
         None
@@ -275,12 +281,12 @@ impl Runner {
         for _ in 0..m {
             let ending = self.step();
             self.steps += 1;
-            if let Some((state, value)) = ending {
-                self.rest(state, value);
+            if let Some((state, value, named)) = ending {
+                self.rest(state, value, named);
                 return Told::Ended(self.steps);
             }
             if self.steps >= self.limit {
-                self.rest(State::Spent, 0);
+                self.rest(State::Spent, 0, 0);
                 return Told::Ended(self.steps);
             }
         }
@@ -290,7 +296,7 @@ impl Runner {
     pub fn answer(&self) -> Told {
         match self.state {
             State::Value => Told::Value { value: self.value, steps: self.steps },
-            State::Notice => Told::Notice(self.steps),
+            State::Notice => Told::Notice { steps: self.steps, named: self.named },
             State::Spent => Told::Spent(self.steps),
             _ => Told::Refused(24, 0),
         }
@@ -300,7 +306,7 @@ impl Runner {
         if self.state != State::Running {
             return Told::Refused(23, 0);
         }
-        self.rest(State::Resting, 0);
+        self.rest(State::Resting, 0, 0);
         Told::Done
     }
 

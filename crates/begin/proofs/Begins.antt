@@ -1,6 +1,6 @@
--- Laws of what a run begins with: the limit, the lengths of the variables and marks, each of them by its place, and that two begins agree on what
--- has no mark. Assumes nothing.
-use Prim.Native.Nat.{ℕ, zero, suc, _-_, _≤_, _<_, min}
+-- Laws of what a run begins with: the limit, the lengths of the variables and marks, each of them by its place, what holds of every mark, and that two
+-- begins agree on what has no mark. Assumes nothing.
+use Prim.Native.Nat.{ℕ, zero, suc, _-_, _^_, _≤_, _<_, min}
 use mathlib.Core.Path.{_≡_, refl, ap, sym, _∙_, subst}
 use mathlib.Core.Logic.{⊎-elim}
 use mathlib.Core.List.{List, [], _∷_, _++_}
@@ -9,6 +9,7 @@ use native.Mathlib.Nat.{eq-or-lt-of-le}
 use native.Mathlib.Decide.{decLt}
 use native.Mathlib.Omega.{arith}
 use lib.Dec.{eqb·suc-zero}
+use lib.Pow.{pow-pos}
 use lib.ListN.{length, getD, take, replicate, length-append, length-take, length-replicate, List·getD-append, List·getD-eq-default}
 use lib.Seq.{take-all, getD-at}
 use Rattle.begin.specs.Begin.{effective, allows, firstVars, withheldMark, withheldMarks, firstMarks}
@@ -32,9 +33,9 @@ unfolding withheldMarks
 length-withheld a zero = refl
 length-withheld a (suc k) = simp (length-append, length-withheld a k) (omega arith)
 
-pub length-marks : (a k : ℕ) → k ≤ 32 → length (firstMarks a k) ≡ 32
+pub length-marks : (a k : ℕ) → length (firstMarks a k) ≡ 32
 unfolding firstMarks
-length-marks a k f = simp (length-append, length-withheld, length-replicate) (omega arith)
+length-marks a k = simp (length-append, length-withheld, length-replicate) (omega arith)
 
 -- Zeros after a list are what a load past its end gives.
 getD-zeros : (l : List ℕ) (n j : ℕ) → getD (l ++ replicate n 0) j 0 ≡ getD l j 0
@@ -43,6 +44,9 @@ getD-zeros [] (suc n) zero = refl
 getD-zeros [] (suc n) (suc j) = getD-zeros [] n j
 getD-zeros (x ∷ l) n zero = refl
 getD-zeros (x ∷ l) n (suc j) = getD-zeros l n j
+
+pub zeros-at : (n j : ℕ) → _≡_ {A = ℕ} (getD (replicate n 0) j 0) 0
+zeros-at n j = getD-zeros [] n j
 
 -- Variable j is input j, and 0 past the inputs.
 pub vars-at : (i : List ℕ) (j : ℕ) → length i ≤ 32 → getD (firstVars i) j 0 ≡ getD i j 0
@@ -61,36 +65,41 @@ withheld-at a (suc k) j l =
     (λ q. List·getD-append done (last ∷ []) 0 j (omega (arith, length-withheld a k)) ∙ withheld-at a k j q)
     (eq-or-lt-of-le within)
 
--- Mark j is that of input j.
-pub marks-at : (a k j : ℕ) → k ≤ 32 → j < k → getD (firstMarks a k) j 0 ≡ withheldMark a j
+-- Mark j is that of input j, and past the inputs there is none.
+pub marks-at : (a k j : ℕ) → k ≤ 16 → j < k → getD (firstMarks a k) j 0 ≡ withheldMark a j
 unfolding firstMarks
-marks-at a k j f l = getD-zeros (withheldMarks a (min 32 k)) (32 - k) j ∙ withheld-at a (min 32 k) j (omega arith)
+marks-at a k j f l = getD-zeros (withheldMarks a (min 16 k)) (32 - min 16 k) j ∙ withheld-at a (min 16 k) j (omega arith)
 
--- A run begins with marks of two classes.
-pub marks-class : (a k j : ℕ) → getD (firstMarks a k) j 0 ≤ 1
+pub marks-past : (a k j : ℕ) → min 16 k ≤ j → getD (firstMarks a k) j 0 ≡ 0
+unfolding firstMarks
+marks-past a k j f =
+    getD-zeros (withheldMarks a (min 16 k)) (32 - min 16 k) j
+    ∙ List·getD-eq-default (withheldMarks a (min 16 k)) 0 (omega (arith, length-withheld a (min 16 k)))
+
+-- What holds of no mark, and of each withheld input alone, holds of every mark that a run begins with.
+pub marks-all : (P : ℕ → Type 0) (a k : ℕ) → P 0 → ((j : ℕ) → j < k → allows a j ≡ false → P (2 ^ j)) → (v : ℕ) → P (getD (firstMarks a k) v 0)
 unfolding firstMarks withheldMark
-marks-class a k j = subst (λ (x : ℕ). x ≤ 1) (sym (getD-zeros (withheldMarks a (min 32 k)) (32 - k) j)) (on (decLt j (min 32 k)))
+marks-all P a k none own v = on (decLt v (min 16 k))
   where
-    one : (b : Bool) → cond b 0 1 ≤ 1
-    one true = omega arith
-    one false = omega arith
+    by : (b : Bool) → allows a v ≡ b → v < k → P (cond b 0 (2 ^ v))
+    by true e l = none
+    by false e l = own v l e
 
-    on : Dec (j < min 32 k) → getD (withheldMarks a (min 32 k)) j 0 ≤ 1
-    on (yes l) = subst (λ (x : ℕ). x ≤ 1) (sym (withheld-at a (min 32 k) j l)) (one (allows a j))
-    on (no q) =
-        let past : length (withheldMarks a (min 32 k)) ≤ j = omega (arith, length-withheld a (min 32 k)) in
-        subst (λ (x : ℕ). x ≤ 1) (sym (List·getD-eq-default (withheldMarks a (min 32 k)) 0 past)) (omega arith)
+    on : Dec (v < min 16 k) → P (getD (firstMarks a k) v 0)
+    on (yes l) =
+        subst P (sym (getD-zeros (withheldMarks a (min 16 k)) (32 - min 16 k) v ∙ withheld-at a (min 16 k) v l)) (by (allows a v) refl (omega arith))
+    on (no q) = subst P (sym (marks-past a k v (omega arith))) none
 
-no-mark : (b : Bool) → _≡_ {A = ℕ} (cond b 0 1) 0 → b ≡ true
-no-mark true e = refl
-no-mark false e = absurd (omega arith)
+no-mark : (b : Bool) (j : ℕ) → cond b 0 (2 ^ j) ≡ 0 → b ≡ true
+no-mark true j e = refl
+no-mark false j e = absurd (omega (arith, pow-pos j))
 
 allowed-at : (a j : ℕ) → withheldMark a j ≡ 0 → allows a j ≡ true
 unfolding withheldMark
-allowed-at a j e = no-mark (allows a j) e
+allowed-at a j e = no-mark (allows a j) j e
 
 -- Two begins whose inputs differ at most where they are withheld give each variable without a mark one value.
-pub first-agree : (a k : ℕ) (i i′ : List ℕ) → k ≤ 32 → length i ≡ k → length i′ ≡ k
+pub first-agree : (a k : ℕ) (i i′ : List ℕ) → k ≤ 16 → length i ≡ k → length i′ ≡ k
     → ((j : ℕ) → j < k → allows a j ≡ true → getD i j 0 ≡ getD i′ j 0)
     → (j : ℕ) → getD (firstMarks a k) j 0 ≡ 0 → getD (firstVars i) j 0 ≡ getD (firstVars i′) j 0
 first-agree a k i i′ f e e′ same j m = vars-at i j (omega arith) ∙ on (decLt j k) ∙ sym (vars-at i′ j (omega arith))

@@ -1,4 +1,4 @@
--- The two loops that fill 32 places, which are 0 at first: what one store more adds, and what stands there after min 32 n stores.
+-- The two loops that fill places of 32, which are 0 at first: what one store more adds, and what stands there after the last of them.
 -- Assumes nothing.
 use Prim.Native.Nat.{ℕ, _+_, _-_, _<_, min}
 use mathlib.Core.Path.{_≡_, ap, sym, _∙_}
@@ -10,9 +10,6 @@ use lib.Seq.{take-suc}
 use Rattle.lists.proofs.Parts.{take-min}
 use Rattle.begin.specs.Begin.{firstVars, withheldMark, withheldMarks, firstMarks}
 
-filled : (done : List ℕ) (n j : ℕ) → j ≡ min 32 n → done ++ replicate (32 - j) 0 ≡ done ++ replicate (32 - n) 0
-filled done n j e = let left : 32 - j ≡ 32 - n = omega arith in ap (λ (m : ℕ). done ++ replicate m 0) left
-
 -- The variables.
 pub vars-next : (i : List ℕ) (j : ℕ) → j < length i → take (j + 1) i ≡ take j i ++ (getD i j 0 ∷ [])
 vars-next i j l = ap (λ (n : ℕ). take n i) (add-one j) ∙ take-suc i j 0 l
@@ -20,13 +17,14 @@ vars-next i j l = ap (λ (n : ℕ). take n i) (add-one j) ∙ take-suc i j 0 l
 pub vars-filled : (i : List ℕ) (j : ℕ) → j ≡ min 32 (length i) → take j i ++ replicate (32 - j) 0 ≡ firstVars i
 unfolding firstVars
 vars-filled i j e =
-    filled (take j i) (length i) j e ∙ ap (λ (d : List ℕ). d ++ replicate (32 - length i) 0) (ap (λ (m : ℕ). take m i) e ∙ take-min 32 i)
+    let left : 32 - j ≡ 32 - length i = omega arith in
+    ap (λ (m : ℕ). take j i ++ replicate m 0) left ∙ ap (λ (d : List ℕ). d ++ replicate (32 - length i) 0) (ap (λ (m : ℕ). take m i) e ∙ take-min 32 i)
 
 -- The marks.
 pub marks-next : (a j x : ℕ) → x ≡ withheldMark a j → withheldMarks a (j + 1) ≡ withheldMarks a j ++ (x ∷ [])
 unfolding withheldMarks
 marks-next a j x e = ap (withheldMarks a) (add-one j) ∙ ap (λ (m : ℕ). withheldMarks a j ++ (m ∷ [])) (sym e)
 
-pub marks-filled : (a k j : ℕ) → j ≡ min 32 k → withheldMarks a j ++ replicate (32 - j) 0 ≡ firstMarks a k
+pub marks-filled : (a k j : ℕ) → j ≡ min 16 k → withheldMarks a j ++ replicate (32 - j) 0 ≡ firstMarks a k
 unfolding firstMarks
-marks-filled a k j e = filled (withheldMarks a j) k j e ∙ ap (λ (m : ℕ). withheldMarks a m ++ replicate (32 - k) 0) e
+marks-filled a k j e = ap (λ (m : ℕ). withheldMarks a m ++ replicate (32 - m) 0) e

@@ -13,20 +13,20 @@ pub fn effective(limit: u32) -> u32
     if limit == 0 { LIMIT_FOR_NONE } else { limit }
 }
 
-fn at_most_32(n: usize) -> usize
-    ensures { λ r. ⌜ r ≡ min 32 n ⌝ }
+fn at_most(most: usize, n: usize) -> usize
+    ensures { λ r. ⌜ r ≡ min most n ⌝ }
 {
-    if n < 32 {
+    if n < most {
         return n;
     }
-    32
+    most
 }
 
 // The variables at the start of a run: the inputs, at most 32 of them, then 0.
 pub fn first_vars(inputs: &[u32]) -> [u32; 32]
     ensures { λ r. ⌜ r ≡ firstVars (now (inputs .entry)) ⌝ }
 {
-    let end = at_most_32(inputs.len());
+    let end = at_most(32, inputs.len());
     let mut vars = [0u32; 32];
     let mut j: usize = 0;
     while j < end {
@@ -36,20 +36,24 @@ pub fn first_vars(inputs: &[u32]) -> [u32; 32]
     vars
 }
 
-// The mark of input j: none where the allowed set has its bit.
-fn withheld_mark(allowed: u32, j: usize) -> u8
-    requires { ⌜ j < 32 ⌝ }
+// The mark of input j: itself alone, and none where the allowed set has its bit.
+fn withheld_mark(allowed: u32, j: usize) -> u16
+    requires { ⌜ j < 16 ⌝ }
     ensures { λ r. ⌜ r ≡ withheldMark allowed j ⌝ }
 {
-    if (allowed >> j) % 2 == 1 { 0 } else { 1 }
+    if (allowed >> j) % 2 == 1 {
+        0
+    } else {
+        1u16 << j
+    }
 }
 
-// The marks at the start of a run: of the withheld inputs among the first k, at most 32 of them, and no other.
-pub fn first_marks(allowed: u32, k: u8) -> [u8; 32]
+// The marks at the start of a run: of the withheld inputs among the first k, at most 16 of them, and no other.
+pub fn first_marks(allowed: u32, k: u8) -> [u16; 32]
     ensures { λ r. ⌜ r ≡ firstMarks allowed k ⌝ }
 {
-    let end = at_most_32(widen::to_usize(k));
-    let mut marks = [0u8; 32];
+    let end = at_most(16, widen::to_usize(k));
+    let mut marks = [0u16; 32];
     let mut j: usize = 0;
     while j < end {
         marks[j] = withheld_mark(allowed, j);

@@ -1,7 +1,8 @@
 -- The claims at their exact bounds, each from the theorem of its claim and nothing else. Assumes nothing.
 use Prim.Native.Nat.{ℕ, _+_}
-use mathlib.Core.Path.{_≡_, ap, sym, _∙_}
+use mathlib.Core.Path.{_≡_, refl, ap, sym, _∙_}
 use mathlib.Core.List.{List, [], _∷_, _++_, append-nil}
+use mathlib.Core.Bool.{Bool, true, false, true≢false}
 use native.Mathlib.Omega.{arith}
 use lib.ListN.{length, drop}
 use lib.Seq.{drop-length}
@@ -9,10 +10,11 @@ use Rattle.chart_claims.proofs.Bounds.{header-bounds, box-bounds}
 use Rattle.calls.specs.Calls.{advance}
 use Rattle.runner.specs.Outcomes.{wrote}
 use Rattle.claims.specs.Lists.{final, asked}
-use Rattle.claims.specs.Bounds.{AnswersAtTheLimit, RunsWithinBounds, WrittenIntoExactRoom, HeldWithinBounds, StatesWithinBounds}
+use Rattle.claims.specs.Bounds.{AnswersAtTheLimit, RunsWithinBounds, WrittenIntoExactRoom, HeldWithinBounds, StatesWithinBounds, NamesWithinBounds}
 use Rattle.claims.proofs.Demand3.{demand3}
 use Rattle.claims.proofs.RunLaws.{counts-boxes, limit-ends, within-limit}
 use Rattle.claims.proofs.ChartLaws.{held-obeys, runs-in-range, ends-in-range, loaded-is-written}
+use Rattle.claims.proofs.Naming.{names-withheld}
 
 pub answers-at-the-limit : AnswersAtTheLimit
 unfolding final asked
@@ -50,14 +52,26 @@ held-within-bounds r g h =
 pub states-within-bounds : StatesWithinBounds
 states-within-bounds = (
   (λ r g e.
-      let u = runs-in-range r g e .ranged in
+      let way = runs-in-range r g e in
+      let u = way .ranged in
       record {
         at = omega arith;
         mode = omega arith;
         below = omega arith;
         limit = omega arith;
-        classes = λ v. let c = u .classes v in omega arith;
-        counter = omega arith;
+        sets = λ v. let s = way .sets .marks v in omega arith;
+        counter = let s = way .sets .counter in omega arith;
       }),
-  (λ r g e. let s = ends-in-range r g e in omega arith),
+  (λ r g e. let s = ends-in-range r g e in (omega arith, omega arith)),
 )
+
+pub names-within-bounds : NamesWithinBounds
+names-within-bounds r mode inputs allowed limit a cs q t m =
+    let only = names-withheld r mode inputs allowed limit a cs q t m in (
+      absent _ (λ e. let s = only (r .header .inputs) e in omega arith),
+      (λ j y. absent _ (λ e. true≢false (sym y ∙ only j e .1))),
+    )
+  where
+    absent : (b : Bool) → (b ≡ true → ⊥) → b ≡ false
+    absent true f = absurd (f refl)
+    absent false f = refl

@@ -49,7 +49,7 @@ pub runs-in-range : RunsInRange
 runs-in-range r g e = sound g .runs e
 
 pub ends-in-range : EndsInRange
-ends-in-range r g e = let s = sound g .ends e in (s .0, s .1)
+ends-in-range r g e = let s = sound g .ends e in (s .0, s .1, s .2)
 
 -- Every call but one that puts another in its place keeps the chart.
 resumed-kept : (p : Progress) (r : Runner) → chartIn (resumed p r) ≡ chartIn r

@@ -43,19 +43,19 @@ module _ (r : Runner) (on : r .state ≡ 1) where
   pub over-rests : (e : Ending) (steps : ℕ) → isRunning (resumed (over e steps) r) ≡ false
   unfolding resumed endedWith
   over-rests (valued v) steps = refl
-  over-rests notice steps = refl
+  over-rests (notice named) steps = refl
   over-rests spent steps = refl
 
   pub over-ended : (e : Ending) (steps : ℕ) → isEnded (resumed (over e steps) r) ≡ true
   unfolding resumed endedWith
   over-ended (valued v) steps = refl
-  over-ended notice steps = refl
+  over-ended (notice named) steps = refl
   over-ended spent steps = refl
 
   over-ending : (e : Ending) (steps : ℕ) → endingIn (resumed (over e steps) r) ≡ e
   unfolding resumed endedWith
   over-ending (valued v) steps = refl
-  over-ending notice steps = refl
+  over-ending (notice named) steps = refl
   over-ending spent steps = refl
 
   took-steps : (e : Ending) (steps : ℕ) → resumed (over e steps) r .took ≡ steps

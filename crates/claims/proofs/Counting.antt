@@ -2,17 +2,14 @@
 use Prim.Native.Nat.{ℕ, zero, suc, _+_, _≤_, _<_}
 use mathlib.Core.Path.{_≡_, refl, ap, _∙_}
 use mathlib.Core.List.{List}
-use mathlib.Core.Bool.{Bool, true, false, cond}
 use native.Mathlib.Omega.{arith}
-use lib.Dec.{leb}
-use borrow.Author.Tests.{leb-false}
 use Rattle.decode.specs.Decode.{boxAt, meaning}
 use Rattle.marks.specs.Marks.{modeOf}
 use Rattle.machine.specs.Act.{act}
-use Rattle.machine.specs.Run.{Run, Ending, spent, Progress, going, over, moved, goesOn, settle, step, onward, run}
+use Rattle.machine.specs.Run.{Run, Ending, Progress, going, over, moved, goesOn, settle, step, onward, run}
 use Rattle.machine.specs.declared.Act.{Act}
 use Rattle.machine.specs.declared.Act.the-variants.{Store, Go, Value, Notice}
-use Rattle.machine.proofs.Runs.{over-still}
+use Rattle.machine.proofs.Runs.{over-still, goes-by}
 
 -- A run that is over.
 pub record Over (p : Progress) : Type 0 where
@@ -26,19 +23,14 @@ pub data Goes (q : Run) : Progress → Type 0 where
   counts : {next : Run} → next .steps ≡ q .steps + 1 → next .limit ≡ q .limit → q .steps + 1 < q .limit → Goes q (going next)
 
 goes-on : (q : Run) (vars marks : List ℕ) (counter at : ℕ) → Goes q (goesOn (moved q vars marks counter at))
-unfolding goesOn
-goes-on q vars marks counter at = by (leb (q .limit) (q .steps + 1)) refl
-  where
-    by : (b : Bool) → leb (q .limit) (q .steps + 1) ≡ b → Goes q (cond b (over spent (q .steps + 1)) (going (moved q vars marks counter at)))
-    by true e = stops
-    by false e = counts refl refl (leb-false _ _ e)
+goes-on q vars marks counter at = goes-by (Goes q) _ stops (λ l. counts refl refl l)
 
 settle-goes : (x : Act) (q : Run) → Goes q (settle x q)
 unfolding settle
 settle-goes (Store t v m next) q = goes-on q _ _ _ _
 settle-goes (Go next counter) q = goes-on q _ _ _ _
 settle-goes (Value v) q = stops
-settle-goes Notice q = stops
+settle-goes (Notice named) q = stops
 
 module _ (table : List ℕ) where
   step-goes : (q : Run) → Goes q (step table q)

@@ -7,56 +7,21 @@ use native.Mathlib.Nat.{add-comm}
 use native.Mathlib.Omega.{arith}
 use Rattle.begin.specs.Begin.{effective}
 use Rattle.begin.proofs.Begins.{effective-positive}
-use Rattle.machine.specs.Run.{Run, Ending, valued, Progress, going, over, run}
+use Rattle.machine.specs.Run.{Run, valued, Progress, going, over, run}
 use Rattle.machine.proofs.Runs.{over-twice}
-use Rattle.calls.specs.Calls.{Call, load, begin, advance, answer, abandon, writeBack, check}
-use Rattle.calls.specs.declared.Verdict.{Verdict}
-use Rattle.calls.specs.declared.Verdict.the-variants.{Done, Refused}
+use Rattle.calls.specs.Calls.{answer}
 use Rattle.runner.specs.declared.Runner.{Runner}
-use Rattle.runner.specs.State.{chartIn, standingOf, ran, resumed}
+use Rattle.runner.specs.State.{chartIn, ran, resumed}
 use Rattle.runner.specs.Whole.{startOf}
-use Rattle.runner.specs.Outcomes.{ending, Told, progressReply, says, outcomeBy, call}
+use Rattle.runner.specs.Outcomes.{call}
 use Rattle.claims.specs.Lists.{Accepted, tells, AllContinue, asked}
 use Rattle.claims.specs.Demand3.{tellsValue, AnswersAsHighWater, Demand3}
-use Rattle.claims.proofs.Branches.{clash}
 use Rattle.claims.proofs.Counting.{Over, run-ends}
-use Rattle.claims.proofs.Continuing.{over-answers, over-says, over-tells, going-does-not-answer, answered-over, told-at, from-start, final-from}
+use Rattle.claims.proofs.Continuing.{over-answers, over-tells, answered-over, from-start, final-from}
+use Rattle.claims.proofs.Answering.{list-tells}
 use Rattle.claims.proofs.OneChart.{one-chart}
 use Rattle.claims.proofs.Pace.{Pace, level, run-pace, pace-value}
 use Rattle.claims.proofs.Secrecy.{begin-permits, begin-starts, started, starts-same, noninterference}
-
--- Which call tells a value: an answer, of a run that is over with it.
-module _ (r : Runner) (on : r .state ≡ 1) (v steps : ℕ) where
-  no-progress : (p : Progress) → ending (valued v) steps ≡ progressReply p → ⊥
-  unfolding progressReply
-  no-progress (going q) e = clash cc
-  no-progress (over k n) e = clash cc
-
-  ending-once : {e e′ : Ending} {n n′ : ℕ} → ending e n ≡ ending e′ n′ → over e n ≡ over e′ n′
-  ending-once e = cc
-
-  said-value : (c : Call) (p : Progress) → Accepted c (resumed p r) → ending (valued v) steps ≡ says c (resumed p r) → p ≡ over (valued v) steps
-  unfolding says
-  said-value (load f) p h e = clash cc
-  said-value (begin m i a l) p h e = clash cc
-  said-value (advance m) p h e = absurd (no-progress (ran m (resumed p r)) e)
-  said-value answer (going q) h e = absurd (going-does-not-answer r on q h)
-  said-value answer (over k n) h e = ending-once (sym (over-says r on k n) ∙ sym e)
-  said-value abandon p h e = clash cc
-  said-value (writeBack b) p h e = clash cc
-
-  told-value : (c : Call) (p : Progress) → tellsValue v steps ≡ call c (resumed p r) .told → p ≡ over (valued v) steps
-  unfolding call outcomeBy
-  told-value c p e = by (check c (standingOf (resumed p r))) refl (ap (λ (t : Told). t .reply) e)
-    where
-      by : (x : Verdict) → check c (standingOf (resumed p r)) ≡ x → ending (valued v) steps ≡ outcomeBy x c (resumed p r) .told .reply → p ≡ over (valued v) steps
-      by Done d q = said-value c p d q
-      by (Refused x) d q = clash cc
-
-  -- A list that tells a value: after so many boxes the run is over with it.
-  list-tells : (cs : List Call) (p : Progress) → AllContinue cs (resumed p r) → List·Memᴰ (tellsValue v steps) (tells cs (resumed p r))
-      → (boxes : ℕ) × (run (r .table) boxes p ≡ over (valued v) steps)
-  list-tells cs p q m = let x = told-at r on cs p q (tellsValue v steps) m in (x .boxes, told-value (x .by) (run (r .table) (x .boxes) p) (x .is))
 
 -- One start in both modes.
 module _ (r : Runner) (inputs : List ℕ) (allowed limit : ℕ) where
@@ -83,8 +48,8 @@ answers-as-high-water r r′ inputs allowed limit limit′ b v steps w ds qd =
     let high = started 2 inputs allowed l (chartIn r′) in
     let begins = begin-starts 2 inputs allowed limit r (b .accepted) ∙ starts-same 2 inputs allowed (effective limit) l c (b .limits) in
     let from = from-start high refl begins in
-    let told = list-tells high refl v steps (w .0) (going (startIn r′ inputs allowed l 2)) (subst (AllContinue (w .0)) from (w .1))
-    (subst (λ (x : Runner). List·Memᴰ (tellsValue v steps) (tells (w .0) x)) from (w .2)) in
+    let told = list-tells high refl (valued v) steps (w .0) (going (startIn r′ inputs allowed l 2)) (subst (AllContinue (w .0)) from (w .1)) (tellsValue v steps)
+    (subst (λ (x : Runner). List·Memᴰ (tellsValue v steps) (tells (w .0) x)) from (w .2)) refl in
     let start = started 1 inputs allowed l (chartIn r′) in
     let last = final-from start refl (begin-starts 1 inputs allowed limit′ r′ (b .accepted′)) ds qd in (
       (λ enough.

@@ -1,17 +1,23 @@
--- The theorems: laws that several share, a run of boxes, lists of calls, what holds of every reachable runner, demand 3, and the other claims.
+-- The theorems: laws that several share, a run of boxes, lists of calls, what holds of every reachable runner, demand 3, the marks as sets, and the other
+-- claims.
 pub mod Branches
 pub mod Accepting
 pub mod Decoded
 pub mod Counting
 pub mod Continuing
+pub mod Answering
 pub mod Unwinding
 pub mod Pace
+pub mod Inputs
+pub mod Sets
 pub mod Reachable
 pub mod OneChart
 pub mod Secrecy
 pub mod Demand3
 pub mod RunLaws
 pub mod ChartLaws
+pub mod Marking
+pub mod Naming
 pub mod Replies
 pub mod OneFile
 pub mod Bounds

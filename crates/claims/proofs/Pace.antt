@@ -11,7 +11,7 @@ use lib.ListN.{length, getD, set, length-set}
 use Rattle.decode.specs.Decode.{boxAt, Box, assigns, decides, halts, meaning}
 use Rattle.marks.specs.Marks.{modeOf, marked, union}
 use Rattle.marks.specs.declared.Mode.the-variants.{Surveillance, HighWater}
-use Rattle.marks.proofs.MarkLaws.{or-none, or-zeros, union-none, marked-none, none-marked}
+use Rattle.marks.proofs.MarkLaws.{or-none, or-zeros, union-none, marked-none, none-marked, marked-or}
 use Rattle.machine.specs.Act.{entry, entries, act}
 use Rattle.machine.specs.Run.{Run, Ending, valued, notice, spent, Progress, going, over, moved, goesOn, settle, step, onward, run}
 use Rattle.machine.specs.declared.Act.the-variants.{Go, Value, Notice}
@@ -44,7 +44,7 @@ beside q ms =
 -- A high-water run that can tell no value any more.
 pub data Lost : Progress → Type 0 where
   counted : {q : Run} → q .mode ≡ 2 → marked (q .counter) ≡ true → Lost (going q)
-  noticed : {steps : ℕ} → Lost (over notice steps)
+  noticed : {named steps : ℕ} → Lost (over (notice named) steps)
   used-up : {steps : ℕ} → Lost (over spent steps)
 
 pub data Pace : Progress → Progress → Type 0 where
@@ -63,11 +63,7 @@ goes-level q ms m c u = cond-both Pace (leb (q .limit) (q .steps)) (lost used-up
 
 -- A union with a mark is marked.
 marked-left : (a b : ℕ) → marked a ≡ true → marked (bitOr a b) ≡ true
-marked-left a b e = on (marked (bitOr a b)) refl
-  where
-    on : (q : Bool) → marked (bitOr a b) ≡ q → q ≡ true
-    on true h = refl
-    on false h = sym (none-marked a (or-none a b (marked-none _ h) .0)) ∙ e
+marked-left a b e = marked-or a b ∙ rw e
 
 -- A lost run stays lost.
 settle-lost : (q : Run) (b : Box) → q .mode ≡ 2 → marked (q .counter) ≡ true → Lost (settle (act HighWater b (q .vars) (q .marks) (q .counter)) q)
@@ -92,7 +88,7 @@ settle-pace q ms (decides reads holds next other) m c u = on (marked (bitOr (q .
 
     on : (b : Bool) → marked (bitOr (q .counter) (union (entries (q .marks) reads))) ≡ b
         → Pace (goesOn (moved q (q .vars) (q .marks) (bitOr (q .counter) (union (entries (q .marks) reads))) way))
-        (settle (cond (marked (union (entries ms reads))) Notice (Go way 0)) (beside q ms))
+        (settle (cond (marked (union (entries ms reads))) (Notice (union (entries ms reads))) (Go way 0)) (beside q ms))
     on true e = lost (goes-lost _ m e)
     on false e =
         let z = marked-none _ e in
@@ -101,8 +97,8 @@ settle-pace q ms (decides reads holds next other) m c u = on (marked (bitOr (q .
 settle-pace q ms halts m c u = on (marked (bitOr (q .counter) (entry (q .marks) 31))) refl
   where
     on : (b : Bool) → marked (bitOr (q .counter) (entry (q .marks) 31)) ≡ b
-        → Pace (settle (cond b Notice (Value (entry (q .vars) 31))) q)
-        (settle (cond (marked (entry ms 31)) Notice (Value (entry (q .vars) 31))) (beside q ms))
+        → Pace (settle (cond b (Notice 0) (Value (entry (q .vars) 31))) q)
+        (settle (cond (marked (entry ms 31)) (Notice (entry ms 31)) (Value (entry (q .vars) 31))) (beside q ms))
     on true e = lost noticed
     on false e =
         let none = none-marked _ (u .under 31 (or-none (q .counter) _ (marked-none _ e) .1)) in

@@ -1,14 +1,14 @@
 -- What holds of every reachable runner: a chart that is held came out of a file, a run under way is in range, and a runner without one is at
 -- rest. A new runner has it, a box keeps it, and so does every call. Assumes nothing.
-use Prim.Native.Nat.{ℕ, zero, suc, _+_, _%_, _≤_, _<_}
+use Prim.Native.Nat.{ℕ, _≤_, _<_}
 use mathlib.Core.Path.{_≡_, refl, ap, sym, _∙_, subst}
-use mathlib.Core.List.{List, [], _∷_}
+use mathlib.Core.List.{List}
 use mathlib.Core.Bool.{Bool, true, false, cond, not, true≢false, false≢true}
 use native.Mathlib.Omega.{arith}
-use lib.Bits.{bitOr, or-lt}
-use lib.Dec.{leb}
-use lib.ListN.{length, getD, length-set}
-use borrow.Author.Tests.{eqb-true, leb-false}
+use lib.Bits.{or-lt}
+use lib.Pow.{pow-pos, pow-lt}
+use lib.ListN.{length, length-set}
+use borrow.Author.Tests.{eqb-true}
 use Rattle.boxes.specs.Bytes.{boxOf}
 use Rattle.format.specs.File.{headerOf, inRange, checkFile}
 use Rattle.format.specs.declared.Header.{Header}
@@ -20,25 +20,26 @@ use Rattle.chart.specs.Chart.{tableOf, Chart}
 use Rattle.chart_claims.specs.Claims.{BoxInRange}
 use Rattle.chart_claims.proofs.Rules.{stays-in-range}
 use Rattle.decode.specs.Decode.{boxAt, Box, meaning}
-use Rattle.marks.specs.Marks.{modeOf, marked, union, targetMark, decisionNotice, counterMark, haltNotice}
+use Rattle.marks.specs.Marks.{modeOf, union, decisionNotice, counterMark, haltNotice}
 use Rattle.marks.specs.declared.Mode.{Mode}
-use Rattle.marks.specs.declared.Mode.the-variants.{Bare, Surveillance, HighWater}
 use Rattle.machine.specs.Act.{entry, entries, act}
-use Rattle.machine.specs.Run.{Run, Ending, valued, notice, spent, Progress, going, over, moved, goesOn, settle, step, onward, run}
-use Rattle.machine.specs.declared.Act.the-variants.{Go, Value, Notice}
+use Rattle.machine.specs.Run.{Run, Ending, valued, notice, spent, Progress, going, over, moved, goesOn, settle, step, run}
+use Rattle.machine.specs.declared.Act.the-variants.{Go, Value}
+use Rattle.machine.proofs.Runs.{run-keeps, goes-by, notice-by}
 use Rattle.begin.specs.Begin.{effective}
-use Rattle.begin.proofs.Begins.{effective-positive, effective-fits, length-vars, length-marks, marks-class}
+use Rattle.begin.proofs.Begins.{effective-positive, effective-fits, length-vars, length-marks, marks-all}
 use Rattle.calls.specs.Calls.{Call, load, begin, advance, answer, abandon, writeBack, refuseIf, fileVerdict, check}
 use Rattle.calls.specs.declared.Verdict.{Verdict}
 use Rattle.calls.specs.declared.Verdict.the-variants.{Done, Refused}
 use Rattle.calls.proofs.Permits.{not-done, passed, permitted}
 use Rattle.runner.specs.declared.Runner.{Runner}
-use Rattle.runner.specs.State.{chartIn, isHeld, isRunning, isEnded, standingOf, endingIn, runnerOf, underWay, idle, newRunner, endedWith, dropped, ran, resumed}
+use Rattle.runner.specs.State.{chartIn, isHeld, isRunning, isEnded, standingOf, endingIn, namedIn, runIn, withRun, underWay, idle, newRunner, endedWith, dropped, ran, resumed}
 use Rattle.runner.specs.Whole.{startOf}
 use Rattle.runner.specs.Outcomes.{after, outcomeBy, call}
 use Rattle.claims.specs.Lists.{Reached, fresh, then}
-use Rattle.claims.specs.Charts.{RunInRange, UnderWay}
-use Rattle.claims.proofs.Branches.{set-each}
+use Rattle.claims.specs.Charts.{RunInRange, InputsOf, UnderWay}
+use Rattle.claims.proofs.Branches.{cond-both}
+use Rattle.claims.proofs.Sets.{Carries, run-carries}
 use Rattle.claims.proofs.Decoded.{GoesBelow, assign-below, decide-below, halt-below, goes-below}
 
 -- A chart that came out of a file.
@@ -51,7 +52,7 @@ pub record Sound (r : Runner) : Type 0 where
   pub held : isHeld r ≡ true → From (r .header) (r .table)
   pub rests : isRunning r ≡ false → isEnded r ≡ false → r ≡ dropped r
   pub runs : isRunning r ≡ true → UnderWay r
-  pub ends : isEnded r ≡ true → (isHeld r ≡ true) × (r .state ≤ 4) × (r ≡ endedWith (endingIn r) (r .took) r)
+  pub ends : isEnded r ≡ true → (isHeld r ≡ true) × (r .state ≤ 4) × InputsOf (r .header) (r .named) × (r ≡ endedWith (endingIn r) (r .took) r)
 
 -- A runner without a run, and with an ended one.
 dropped-sound : (c : Chart) → (inRange (c .header) ≡ true → From (c .header) (c .table)) → Sound (idle c)
@@ -60,16 +61,18 @@ dropped-sound c f =
     record { held = f; rests = λ e q. refl; runs = λ e. absurd (false≢true e); ends = λ e. absurd (false≢true e) }
 
 over-sound : (q : Runner) → From (q .header) (q .table) → isHeld q ≡ true → isEnded q ≡ true → isRunning q ≡ false → q .state ≤ 4
+    → InputsOf (q .header) (q .named)
     → q ≡ endedWith (endingIn q) (q .took) q
     → Sound q
-over-sound q f h e n l is =
-    record { held = λ z. f; rests = λ z y. absurd (true≢false (sym e ∙ y)); runs = λ z. absurd (false≢true (sym n ∙ z)); ends = λ z. (h, l, is) }
+over-sound q f h e n l i is =
+    record { held = λ z. f; rests = λ z y. absurd (true≢false (sym e ∙ y)); runs = λ z. absurd (false≢true (sym n ∙ z)); ends = λ z. (h, l, i, is) }
 
-ended-sound : (e : Ending) (steps : ℕ) (r : Runner) → From (r .header) (r .table) → isHeld r ≡ true → Sound (endedWith e steps r)
+ended-sound : (e : Ending) (steps : ℕ) (r : Runner) → From (r .header) (r .table) → isHeld r ≡ true → InputsOf (r .header) (namedIn e)
+    → Sound (endedWith e steps r)
 unfolding endedWith
-ended-sound (valued v) steps r f h = over-sound _ f h refl refl (omega arith) refl
-ended-sound notice steps r f h = over-sound _ f h refl refl (omega arith) refl
-ended-sound spent steps r f h = over-sound _ f h refl refl (omega arith) refl
+ended-sound (valued v) steps r f h i = over-sound _ f h refl refl (omega arith) i refl
+ended-sound (notice named) steps r f h i = over-sound _ f h refl refl (omega arith) i refl
+ended-sound spent steps r f h i = over-sound _ f h refl refl (omega arith) i refl
 
 running-sound : (r : Runner) → r .state ≡ 1 → From (r .header) (r .table) → UnderWay r → Sound r
 running-sound r s f u =
@@ -80,67 +83,28 @@ running-sound r s f u =
       rests = λ e q. absurd (true≢false (rw s at e));
     }
 
--- The marks of two classes stay so.
-or-class : (a b : ℕ) → a ≤ 1 → b ≤ 1 → bitOr a b ≤ 1
-or-class a b ha hb = let l = or-lt 1 a b (omega arith) (omega arith) in omega arith
-
-module _ (marks : List ℕ) (two : (v : ℕ) → getD marks v 0 ≤ 1) where
-  union-class : (vs : List ℕ) → union (entries marks vs) ≤ 1
-  unfolding union
-  union-class [] = omega arith
-  union-class (v ∷ vs) = or-class (entry marks v) (union (entries marks vs)) (two (v % 32)) (union-class vs)
-
-  target-class : (m : Mode) (t : ℕ) (vs : List ℕ) → targetMark m (entry marks t) (union (entries marks vs)) ≤ 1
-  target-class Bare t vs = two (t % 32)
-  target-class Surveillance t vs = union-class vs
-  target-class HighWater t vs = or-class _ _ (two (t % 32)) (union-class vs)
-
-  counter-class : (m : Mode) (counter : ℕ) (vs : List ℕ) → counter ≤ 1 → counterMark m counter (union (entries marks vs)) ≤ 1
-  counter-class Bare counter vs h = h
-  counter-class Surveillance counter vs h = h
-  counter-class HighWater counter vs h = or-class _ _ h (union-class vs)
-
 -- What a run in range comes to: it is over, or still in range.
-data Ranged (h : Header) : Progress → Type 0 where
-  in-reach : {q : Run} → RunInRange h q → Ranged h (going q)
-  finished : {e : Ending} {steps : ℕ} → Ranged h (over e steps)
+abbrev Ranged : Header → Progress → Type 0
+Ranged h (going q) = RunInRange h q
+Ranged h (over e steps) = Unit {0}
 
 -- One box.
 module _ (h : Header) (q : Run) (u : RunInRange h q) where
-  goes-ranged : (vars marks : List ℕ) (counter at : ℕ) → length vars ≡ 32 → length marks ≡ 32 → ((v : ℕ) → getD marks v 0 ≤ 1) → counter ≤ 1
-      → at < h .boxes → Ranged h (goesOn (moved q vars marks counter at))
-  unfolding goesOn
-  goes-ranged vars marks counter at lv lm two one b = on (leb (q .limit) (q .steps + 1)) refl
-    where
-      on : (x : Bool) → leb (q .limit) (q .steps + 1) ≡ x → Ranged h (cond x (over spent (q .steps + 1)) (going (moved q vars marks counter at)))
-      on true e = finished
-      on false e =
-          in-reach
-          (record { at = b; mode = u .mode; below = leb-false _ _ e; limit = u .limit; vars = lv; marks = lm; classes = two; counter = one })
+  goes-ranged : (vars marks : List ℕ) (counter at : ℕ) → length vars ≡ 32 → length marks ≡ 32 → at < h .boxes
+      → Ranged h (goesOn (moved q vars marks counter at))
+  goes-ranged vars marks counter at lv lm b =
+      goes-by (Ranged h) _ tt (λ l. record { at = b; mode = u .mode; below = l; limit = u .limit; vars = lv; marks = lm })
 
   settle-ranged : (m : Mode) (b : Box) → GoesBelow (h .boxes) b → Ranged h (settle (act m b (q .vars) (q .marks) (q .counter)) q)
   unfolding settle act
-  settle-ranged m b (assign-below {target = t} {reads = reads} l) =
-      let mark = targetMark m (entry (q .marks) t) (union (entries (q .marks) reads)) in
-      let class = target-class (q .marks) (u .classes) m t reads in
-      goes-ranged _ _ _ _ (simp length-set (u .vars)) (simp length-set (u .marks))
-      (set-each (λ x y z. x ≤ 1) (q .marks) (q .marks) (q .marks) refl refl (u .classes) (t % 32) mark mark mark class)
-      (u .counter) l
+  settle-ranged m b (assign-below l) = goes-ranged _ _ _ _ (simp length-set (u .vars)) (simp length-set (u .marks)) l
   settle-ranged m b (decide-below {reads = reads} {holds = holds} {next = next} {other = other} l k) =
-      on (marked (decisionNotice m (union (entries (q .marks) reads)))) (holds (entries (q .vars) reads))
-    where
-      class : counterMark m (q .counter) (union (entries (q .marks) reads)) ≤ 1
-      class = counter-class (q .marks) (u .classes) m (q .counter) reads (u .counter)
-
-      on : (n y : Bool) → Ranged h (settle (cond n Notice (Go (cond y next other) (counterMark m (q .counter) (union (entries (q .marks) reads))))) q)
-      on true y = finished
-      on false true = goes-ranged _ _ _ _ (u .vars) (u .marks) (u .classes) class l
-      on false false = goes-ranged _ _ _ _ (u .vars) (u .marks) (u .classes) class k
-  settle-ranged m b halt-below = on (marked (haltNotice m (q .counter) (entry (q .marks) 31)))
-    where
-      on : (n : Bool) → Ranged h (settle (cond n Notice (Value (entry (q .vars) 31))) q)
-      on true = finished
-      on false = finished
+      let read = union (entries (q .marks) reads) in
+      let way = cond (holds (entries (q .vars) reads)) next other in
+      notice-by (Ranged h) m (decisionNotice m read) (Go way (counterMark m (q .counter) read)) q (λ e. tt)
+      (λ e. goes-ranged _ _ _ _ (u .vars) (u .marks) (cond-both (λ x y. x < h .boxes) {a′ = 0} {c′ = 0} (holds (entries (q .vars) reads)) l k))
+  settle-ranged m b halt-below =
+      notice-by (Ranged h) m (haltNotice m (q .counter) (entry (q .marks) 31)) (Value (entry (q .vars) 31)) q (λ e. tt) (λ e. tt)
 
 module _ (h : Header) (table : List ℕ) (f : From h table) where
   step-ranged : (q : Run) → RunInRange h q → Ranged h (step table q)
@@ -151,22 +115,16 @@ module _ (h : Header) (table : List ℕ) (f : From h table) where
       subst (λ (t : List ℕ). BoxInRange (h .boxes) (boxOf t (q .at))) (sym (f .loads)) (c .1 (q .at) (u .at)) in
       settle-ranged h q u (modeOf (q .mode)) (meaning (boxAt table (q .at))) (goes-below (h .boxes) table (q .at) few box)
 
-  onward-ranged : {p : Progress} → Ranged h p → Ranged h (onward table p)
-  unfolding onward
-  onward-ranged (in-reach {q = q} u) = step-ranged q u
-  onward-ranged finished = finished
-
-  run-ranged : (m : ℕ) {p : Progress} → Ranged h p → Ranged h (run table m p)
-  unfolding run
-  run-ranged zero u = u
-  run-ranged (suc m) u = run-ranged m (onward-ranged u)
+  run-ranged : (m : ℕ) (q : Run) → RunInRange h q → Ranged h (run table m (going q))
+  run-ranged m q u = run-keeps table (Ranged h) step-ranged m (going q) u
 
 -- The runner that has come to it.
-resumed-sound : (r : Runner) → r .state ≡ 1 → From (r .header) (r .table) → UnderWay r → {p : Progress} → Ranged (r .header) p → Sound (resumed p r)
+resumed-sound : (r : Runner) → r .state ≡ 1 → From (r .header) (r .table) → UnderWay r → (p : Progress) → Ranged (r .header) p
+    → Carries (InputsOf (r .header)) p
+    → Sound (resumed p r)
 unfolding resumed
-resumed-sound r s f u (in-reach {q = q} x) =
-    running-sound (runnerOf (chartIn r) q (r .state) (r .took) (r .value)) s f (record { held = u .held; ranged = x; forgot = u .forgot })
-resumed-sound r s f u (finished {e = e} {steps = steps}) = ended-sound e steps r f (u .held)
+resumed-sound r s f u (going q) x y = running-sound (withRun q r) s f (record { held = u .held; ranged = x; sets = y; forgot = u .forgot })
+resumed-sound r s f u (over e steps) x y = ended-sound e steps r f (u .held) y
 
 -- An accepted load: the file's header and table.
 pub accepted-file : (file : List ℕ) (r : Runner) → check (load file) (standingOf r) ≡ Done → checkFile file ≡ checked.Accepted (headerOf file)
@@ -183,6 +141,7 @@ start-sound mode inputs allowed limit r e h =
     let p = permitted mode inputs allowed limit (standingOf r) e in
     let f = h .held (p .held) in
     let few = in-range (r .header) (p .held) .few in
+    let k = r .header .inputs in
     let many : length inputs ≤ 32 = omega (arith, p .lent) in
     running-sound (underWay (chartIn r) (startOf mode inputs allowed (effective limit) (r .header))) refl f
     (record {
@@ -194,11 +153,11 @@ start-sound mode inputs allowed limit r e h =
             below = effective-positive limit;
             limit = effective-fits limit (p .fits);
             vars = length-vars inputs many;
-            marks = length-marks allowed (r .header .inputs) (omega arith);
-            classes = marks-class allowed (r .header .inputs);
-            counter = omega arith;
+            marks = length-marks allowed k;
           };
-      forgot = (refl, refl);
+      sets =
+          record { marks = marks-all (InputsOf (r .header)) allowed k (pow-pos k) (λ j l w. pow-lt l); counter = pow-pos k };
+      forgot = (refl, refl, refl);
     })
 
 advance-sound : (m : ℕ) (r : Runner) → check (advance m) (standingOf r) ≡ Done → Sound r → Sound (resumed (ran m r) r)
@@ -209,7 +168,9 @@ advance-sound m r e h = on (isRunning r) refl e
     on true q z =
         let u = h .runs q in
         let f = h .held (u .held) in
-        resumed-sound r (eqb-true _ _ q) f u (run-ranged (r .header) (r .table) f m (in-reach (u .ranged)))
+        let k = r .header .inputs in
+        resumed-sound r (eqb-true _ _ q) f u (ran m r) (run-ranged (r .header) (r .table) f m (runIn r) (u .ranged))
+        (run-carries (InputsOf (r .header)) (pow-pos k) (or-lt k) (r .table) m (runIn r) (u .sets))
     on false q z = not-done z
 
 outcome-sound : (v : Verdict) (c : Call) (r : Runner) → check c (standingOf r) ≡ v → Sound r → Sound (outcomeBy v c r .next)

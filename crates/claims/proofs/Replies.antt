@@ -48,19 +48,19 @@ advance-once (advance.Refused x) (advance.Refused y) e = ap advance.Refused (ref
 answer-once : Injective answerReply
 unfolding answerReply
 answer-once (answer.Value v s) (answer.Value w t) e = cc
-answer-once (answer.Value v s) (answer.Notice t) e = clash cc
+answer-once (answer.Value v s) (answer.Notice m t) e = clash cc
 answer-once (answer.Value v s) (answer.Spent t) e = clash cc
 answer-once (answer.Value v s) (answer.Refused y) e = clash cc
-answer-once (answer.Notice s) (answer.Value w t) e = clash cc
-answer-once (answer.Notice s) (answer.Notice t) e = cc
-answer-once (answer.Notice s) (answer.Spent t) e = clash cc
-answer-once (answer.Notice s) (answer.Refused y) e = clash cc
+answer-once (answer.Notice n s) (answer.Value w t) e = clash cc
+answer-once (answer.Notice n s) (answer.Notice m t) e = cc
+answer-once (answer.Notice n s) (answer.Spent t) e = clash cc
+answer-once (answer.Notice n s) (answer.Refused y) e = clash cc
 answer-once (answer.Spent s) (answer.Value w t) e = clash cc
-answer-once (answer.Spent s) (answer.Notice t) e = clash cc
+answer-once (answer.Spent s) (answer.Notice m t) e = clash cc
 answer-once (answer.Spent s) (answer.Spent t) e = cc
 answer-once (answer.Spent s) (answer.Refused y) e = clash cc
 answer-once (answer.Refused x) (answer.Value w t) e = clash cc
-answer-once (answer.Refused x) (answer.Notice t) e = clash cc
+answer-once (answer.Refused x) (answer.Notice m t) e = clash cc
 answer-once (answer.Refused x) (answer.Spent t) e = clash cc
 answer-once (answer.Refused x) (answer.Refused y) e = ap answer.Refused (refusal-once x y e)
 

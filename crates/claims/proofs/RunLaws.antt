@@ -250,4 +250,4 @@ within-limit r mode inputs allowed limit a cs q t m =
     (subst (λ (x : Runner). List·Memᴰ t (tells cs x)) from m)
 
 pub cleared : Cleared
-cleared r g = (sound g .rests, λ e. sound g .ends e .2)
+cleared r g = (sound g .rests, λ e. sound g .ends e .3)

@@ -52,8 +52,8 @@ start-low c inputs inputs′ allowed l few e e′ f =
     let k = c .header .inputs in
     apart (firstVars inputs′) refl refl
     (record {
-      left = length-vars inputs (omega arith) ∙ sym (length-marks allowed k (omega arith));
-      right = length-vars inputs′ (omega arith) ∙ sym (length-marks allowed k (omega arith));
+      left = length-vars inputs (omega arith) ∙ sym (length-marks allowed k);
+      right = length-vars inputs′ (omega arith) ∙ sym (length-marks allowed k);
       agree = first-agree allowed k inputs inputs′ (omega arith) e e′ (λ j b. f j);
     })
 

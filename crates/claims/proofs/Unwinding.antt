@@ -19,7 +19,7 @@ use Rattle.calls.specs.Calls.{Call, load, begin, advance, answer, abandon, writ
 use Rattle.calls.specs.declared.Verdict.{Verdict}
 use Rattle.calls.specs.declared.Verdict.the-variants.{Done, Refused}
 use Rattle.runner.specs.declared.Runner.{Runner}
-use Rattle.runner.specs.State.{chartIn, standingOf, runnerOf, runIn, endedWith, dropped, resumed}
+use Rattle.runner.specs.State.{standingOf, runIn, withRun, endedWith, dropped, resumed}
 use Rattle.runner.specs.Outcomes.{Reply, Outcome, Effect, runs, keeps, begins, drops, replaces, effect, after, progressReply, says, lentAs, outcomeBy, call}
 use Rattle.claims.specs.Lists.{tells}
 use Rattle.claims.proofs.Branches.{cond-both, set-each}
@@ -71,14 +71,15 @@ settle-low q w (assigns t reads gives next) m h =
 settle-low q w (decides reads holds next other) m h = on (marked (union (entries (q .marks) reads))) refl
   where
     on : (b : Bool) → marked (union (entries (q .marks) reads)) ≡ b
-        → Low (settle (cond b Notice (Go (cond (holds (entries (q .vars) reads)) next other) (q .counter))) q)
-        (settle (cond b Notice (Go (cond (holds (entries w reads)) next other) (q .counter))) (withVars q w))
+        → Low (settle (cond b (Notice (union (entries (q .marks) reads))) (Go (cond (holds (entries (q .vars) reads)) next other) (q .counter))) q)
+        (settle (cond b (Notice (union (entries (q .marks) reads))) (Go (cond (holds (entries w reads)) next other) (q .counter))) (withVars q w))
     on true e = same-run
     on false e = rw (← values-agree h reads (marked-none _ e)) (goes-low _ w m h)
 settle-low q w halts m h = on (marked (entry (q .marks) 31)) refl
   where
     on : (b : Bool) → marked (entry (q .marks) 31) ≡ b
-        → Low (settle (cond b Notice (Value (entry (q .vars) 31))) q) (settle (cond b Notice (Value (entry w 31))) (withVars q w))
+        → Low (settle (cond b (Notice (entry (q .marks) 31)) (Value (entry (q .vars) 31))) q)
+        (settle (cond b (Notice (entry (q .marks) 31)) (Value (entry w 31))) (withVars q w))
     on true e = same-run
     on false e = rw (h .agree 31 (marked-none _ e)) same-run
 
@@ -102,7 +103,7 @@ run-low table (suc m) h = run-low table m (onward-low table h)
 
 -- The runner with other values in its variables, and low-equal runners.
 abbrev pub otherVars : Runner → List ℕ → Runner
-otherVars r w = runnerOf (chartIn r) (withVars (runIn r) w) (r .state) (r .took) (r .value)
+otherVars r w = withRun (withVars (runIn r) w) r
 
 pub data LowEqual : Runner → Runner → Type 0 where
   same : {r : Runner} → LowEqual r r
@@ -112,7 +113,7 @@ resumed-low : (r : Runner) (w : List ℕ) → r .state ≡ 1 → {p p′ : Progr
 unfolding resumed endedWith
 resumed-low r w s (same-run {p = going q}) = same
 resumed-low r w s (same-run {p = over e steps}) = same
-resumed-low r w s (runs-apart {q = q} w′ m h) = apart {r = runnerOf (chartIn r) q (r .state) (r .took) (r .value)} w′ s m h
+resumed-low r w s (runs-apart {q = q} w′ m h) = apart {r = withRun q r} w′ s m h
 
 -- Output consistency, and each call keeps the relation.
 record Alike (o o′ : Outcome) : Type 0 where

@@ -1,12 +1,12 @@
 -- The claims at their exact bounds. Each follows from the theorem of its claim alone, so a claim whose bound is moved by one would be noticed here.
-use Prim.Native.Nat.{ℕ, _+_}
+use Prim.Native.Nat.{ℕ, _+_, _^_}
 use mathlib.Core.Path.{_≡_}
 use mathlib.Core.List.{List, [], _∷_, List·Memᴰ}
 use mathlib.Core.Logic.{_≢_}
-use mathlib.Core.Bool.{true}
+use mathlib.Core.Bool.{true, false}
 use lib.ListN.{length, getD}
 use Rattle.chart_claims.specs.Bounds.{ChartBounds}
-use Rattle.begin.specs.Begin.{effective}
+use Rattle.begin.specs.Begin.{effective, has, allows}
 use Rattle.calls.specs.Calls.{Call, load, advance, answer, writeBack}
 use Rattle.runner.specs.declared.Runner.{Runner}
 use Rattle.runner.specs.State.{isHeld, isRunning, isEnded}
@@ -15,6 +15,7 @@ use Rattle.claims.specs.Lists.{Reached, Accepted, begun, tells, final, A
 use Rattle.claims.specs.Demand3.{Begins, SameLimit, tellsValue, SomeAnswer}
 use Rattle.claims.specs.Runs.{AfterBegin, stepsTold}
 use Rattle.claims.specs.Charts.{AllKeepChart}
+use Rattle.claims.specs.Sets.{AllTold, namedTold}
 
 -- Demand 3's second half: after one advance by exactly the limit an answer tells the value that high-water told.
 abbrev pub AnswersAtTheLimit : Type 0
@@ -55,10 +56,16 @@ pub record UnderWayBounds (r : Runner) : Type 0 where
   pub mode : r .mode ≢ 3
   pub below : r .steps ≢ r .limit
   pub limit : r .limit ≢ 65536
-  pub classes : (v : ℕ) → getD (r .marks) v 0 ≢ 2
-  pub counter : r .counter ≢ 2
+  pub sets : (v : ℕ) → getD (r .marks) v 0 ≢ 2 ^ r .header .inputs
+  pub counter : r .counter ≢ 2 ^ r .header .inputs
 
--- And no state is past the three endings.
+-- And no state is past the three endings, nor a named set past the inputs.
 abbrev pub StatesWithinBounds : Type 0
 StatesWithinBounds =
-    ((r : Runner) → Reached r → isRunning r ≡ true → UnderWayBounds r) × ((r : Runner) → Reached r → isEnded r ≡ true → r .state ≢ 5)
+    ((r : Runner) → Reached r → isRunning r ≡ true → UnderWayBounds r)
+    × ((r : Runner) → Reached r → isEnded r ≡ true → (r .state ≢ 5) × (r .named ≢ 2 ^ r .header .inputs))
+
+-- No set told has a bit at k, or one of an input that is allowed.
+abbrev pub NamesWithinBounds : Type 0
+NamesWithinBounds =
+    AllTold (λ mode allowed k reply. (has (namedTold reply) k ≡ false) × ((j : ℕ) → allows allowed j ≡ true → has (namedTold reply) j ≡ false))

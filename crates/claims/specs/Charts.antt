@@ -1,5 +1,5 @@
 -- Claims about the charts that reachable runners hold, and the round trip of a file through the calls.
-use Prim.Native.Nat.{ℕ, _≤_, _<_}
+use Prim.Native.Nat.{ℕ, _^_, _≤_, _<_}
 use mathlib.Core.Path.{_≡_}
 use mathlib.Core.List.{List, [], _++_}
 use mathlib.Core.Bool.{true, false}
@@ -27,7 +27,7 @@ abbrev pub HeldObeys : Type 0
 HeldObeys = (r : Runner) → Reached r → isHeld r ≡ true → Obeys (r .header) (r .table)
 
 -- A run under way on a chart is at one of its boxes, in a mode that there is, below a limit that can be set, with 32 variables and marks. So the answers
--- that the definitions give elsewhere are never met. "The classes of the high-water mark are two": a mark is 0 or 1.
+-- that the definitions give elsewhere are never met.
 pub record RunInRange (h : Header) (q : Run) : Type 0 where
   pub at : q .at < h .boxes
   pub mode : q .mode ≤ 2
@@ -35,21 +35,29 @@ pub record RunInRange (h : Header) (q : Run) : Type 0 where
   pub limit : q .limit ≤ 65535
   pub vars : length (q .vars) ≡ 32
   pub marks : length (q .marks) ≡ 32
-  pub classes : (v : ℕ) → getD (q .marks) v 0 ≤ 1
-  pub counter : q .counter ≤ 1
 
--- It is on the chart held, and there is no earlier ending.
+-- What holds of all the sets of a run: of each variable's and of the counter's.
+pub record AllSets (P : ℕ → Type 0) (q : Run) : Type 0 where
+  pub marks : (v : ℕ) → P (getD (q .marks) v 0)
+  pub counter : P (q .counter)
+
+-- A set of inputs of a chart: no "bit at k or above".
+abbrev pub InputsOf : Header → ℕ → Type 0
+InputsOf h set = set < 2 ^ h .inputs
+
+-- A run under way is on the chart held, its marks are sets of the chart's inputs, and there is no earlier ending.
 pub record UnderWay (r : Runner) : Type 0 where
   pub held : isHeld r ≡ true
   pub ranged : RunInRange (r .header) (runIn r)
-  pub forgot : (r .took ≡ 0) × (r .value ≡ 0)
+  pub sets : AllSets (InputsOf (r .header)) (runIn r)
+  pub forgot : (r .took ≡ 0) × (r .value ≡ 0) × (r .named ≡ 0)
 
 abbrev pub RunsInRange : Type 0
 RunsInRange = (r : Runner) → Reached r → isRunning r ≡ true → UnderWay r
 
--- An ended run is of a held chart, and has one of the three endings.
+-- An ended run is of a held chart, has one of the three endings, and names inputs of that chart.
 abbrev pub EndsInRange : Type 0
-EndsInRange = (r : Runner) → Reached r → isEnded r ≡ true → (isHeld r ≡ true) × (r .state ≤ 4)
+EndsInRange = (r : Runner) → Reached r → isEnded r ≡ true → (isHeld r ≡ true) × (r .state ≤ 4) × InputsOf (r .header) (r .named)
 
 -- What is asked of a call so that it keeps the chart: nothing, but where it puts another in its place.
 abbrev pub KeepsChart : Effect → Type 0 → Type 0

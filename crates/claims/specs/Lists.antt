@@ -50,6 +50,15 @@ Continues c r = OnlyRuns (effect c) (Accepted c r → ⊥)
 abbrev pub AllContinue : List Call → Runner → Type 0
 AllContinue cs r = Along Continues cs r
 
+-- What holds of every run as calls continue it: of the runner that an accepted begin got, of what the begin was given, and of a list of such calls after it.
+abbrev pub Continued : ((r : Runner) (mode : ℕ) (inputs : List ℕ) (allowed limit : ℕ) → List Call → Type 0) → Type 0
+Continued P =
+    (r : Runner) (mode : ℕ) (inputs : List ℕ) (allowed limit : ℕ)
+    → Accepted (begin mode inputs allowed limit) r
+    → (cs : List Call)
+    → AllContinue cs (begun mode inputs allowed limit r)
+    → P r mode inputs allowed limit cs
+
 -- The boxes that a call asks for, and a list of them: "the true sum of the amounts asked".
 abbrev pub amountOf : Effect → ℕ
 amountOf (runs m) = m

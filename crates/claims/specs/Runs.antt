@@ -14,7 +14,7 @@ use Rattle.runner.specs.declared.Runner.{Runner}
 use Rattle.runner.specs.State.{isRunning, isEnded, endingIn, endedWith, dropped}
 use Rattle.runner.specs.Whole.{whole}
 use Rattle.runner.specs.Outcomes.{Reply, done, chart, running, ended, ending, wrote, refused, Told, lent, call}
-use Rattle.claims.specs.Lists.{Reached, Accepted, begun, tells, final, AllContinue, asked, Ends}
+use Rattle.claims.specs.Lists.{Reached, Accepted, begun, tells, final, AllContinue, Continued, asked, Ends}
 
 -- Demand 1: "A refusal changes neither the runner nor one byte of a lent buffer."
 abbrev pub RefusalChangesNothing : Type 0
@@ -70,13 +70,10 @@ LimitEnds = AfterBegin (λ limit start. (cs : List Call) → AllContinue cs star
 -- (`LimitEnds`), an answer tells the ending and the steps of the whole run.
 abbrev pub TellsWholeRun : Type 0
 TellsWholeRun =
-    (r : Runner) (mode : ℕ) (inputs : List ℕ) (allowed limit : ℕ)
-    → Accepted (begin mode inputs allowed limit) r
-    → (cs : List Call)
-    → AllContinue cs (begun mode inputs allowed limit r)
-    → Ends cs (begun mode inputs allowed limit r)
+    Continued
+    (λ r mode inputs allowed limit cs. Ends cs (begun mode inputs allowed limit r)
     → let all = whole (r .header) (r .table) mode inputs allowed (effective limit) in
-    call answer (final cs (begun mode inputs allowed limit r)) .told ≡ record { reply = ending (all .ending) (all .steps); buffer = [] }
+    call answer (final cs (begun mode inputs allowed limit r)) .told ≡ record { reply = ending (all .ending) (all .steps); buffer = [] })
 
 -- The steps that a reply tells.
 abbrev pub stepsTold : Reply → ℕ

@@ -8,7 +8,7 @@ use lib.Count.{onesIn, ones, ones-cat}
 use Rattle.machine.specs.Run.{valued}
 use Rattle.runner.specs.Outcomes.{done, chart, ended, ending}
 use Rattle.examples.specs.Files.{fileCases, FileExamples}
-use Rattle.examples.specs.Runs.{Given, replies, number, gives, expected, markedCases, MarkedCases}
+use Rattle.examples.specs.Runs.{Given, replies, number, gives, expected, markedCases, MarkedCases, namingCases, NamingCases}
 use Rattle.examples.proofs.Open.{files-open, runs-open}
 
 pub file-examples : FileExamples
@@ -35,3 +35,7 @@ rows x value bits =
 pub marked-cases : MarkedCases
 unfolding runs-open gives expected markedCases rows
 marked-cases x l = (refl, ap (λ (v : ℕ). rows x v (ones 4294967295)) (itself x l) ∙ ap (rows x 0) all-ones)
+
+pub naming-cases : NamingCases
+unfolding runs-open gives expected namingCases
+naming-cases = (refl, refl)

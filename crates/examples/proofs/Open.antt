@@ -16,14 +16,14 @@ use Rattle.calls.specs.Calls.{fileVerdict, check}
 use Rattle.runner.specs.State.{newRunner, endedWith, dropped, resumed}
 use Rattle.runner.specs.Outcomes.{after, progressReply, says, outcomeBy, call}
 use Rattle.claims.specs.Lists.{tells, final}
-use Rattle.examples.specs.Charts.{chartA, chartB, chartC, chartD, headE, boxesE, chartE}
+use Rattle.examples.specs.Charts.{chartA, chartB, chartC, chartD, headE, boxesE, chartE, chartPair, chartChain, chartTwice, chartSum}
 
 unfoldable pub rules-open : Unit {0}
 unfolding allZero firstFrom weighted checksum isSealed operandRule assignmentRule decisionRule haltRule wellFormed headerRule placeRule checkFile
 rules-open = tt
 
 unfoldable pub files-open : Unit {0}
-unfolding rules-open chartA chartB chartC chartD headE boxesE chartE
+unfolding rules-open chartA chartB chartC chartD headE boxesE chartE chartPair chartChain chartTwice chartSum
 files-open = tt
 
 unfoldable pub tables-open : Unit {0}

@@ -2,12 +2,13 @@
 -- Assumes nothing.
 use Prim.Native.Nat.{ℕ}
 use mathlib.Core.Path.{_≡_, refl, ap}
-use mathlib.Core.List.{List, [], _∷_, _++_}
+use mathlib.Core.List.{List, [], _∷_, _++_, List·Memᴰ·head, List·Memᴰ·tail}
+use mathlib.Core.Bool.{false≢true}
 use native.Mathlib.Omega.{arith}
 use lib.ListN.{replicate}
 use Rattle.machine.specs.Run.{valued, notice, spent}
 use Rattle.begin.specs.Begin.{limitForNone}
-use Rattle.calls.specs.Calls.{load, begin, advance}
+use Rattle.calls.specs.Calls.{load, begin, advance, answer}
 use Rattle.calls.proofs.Permits.{not-done}
 use Rattle.runner.specs.declared.Runner.{Runner}
 use Rattle.runner.specs.State.{newRunner}
@@ -18,6 +19,7 @@ use Rattle.claims.proofs.Branches.{clash}
 use Rattle.examples.specs.Charts.{block, front, halt, chartB, chartC, chartD, chartE}
 use Rattle.examples.specs.Refuted.{HighWaterIsNotSecret, AnotherLimitIsTold, BareAnswersMore, SmallerLimitAnswersLess}
 use Rattle.examples.specs.Refuted.{OneMore, OneLess, AdvancesPartAtTheEnd, NoLoadDuringARun, AnotherLoadIsTold}
+use Rattle.examples.specs.Refuted.{HighWaterNamesNone, SurveillanceNamesSome}
 use Rattle.examples.specs.Witnesses.{justLoaded}
 use Rattle.examples.proofs.Open.{runs-open}
 use Rattle.examples.proofs.Witnesses.{on-one-file, first-withheld, answered}
@@ -51,7 +53,7 @@ bare-answers-more claim =
     let r = justLoaded chartD in
     let told = claim r r (7 ∷ []) 0 0 0 (on-one-file chartD [] [] 0 1 SameLimit (7 ∷ []) (7 ∷ []) 0 0 0 refl tt tt refl refl refl) 0 2 in
     let both = told (answered (begun 0 (7 ∷ []) 0 0 r) 0 2 refl) (advance 2 ∷ []) (tt, tt) in
-    let e : ending notice 2 ≡ ending (valued 0) 2 = ap (λ (t : Told). t .reply) (both .1 refl) in
+    let e : ending (notice 1) 2 ≡ ending (valued 0) 2 = ap (λ (t : Told). t .reply) (both .1 refl) in
     clash cc
 
 pub smaller-limit-answers-less : SmallerLimitAnswersLess
@@ -93,3 +95,17 @@ another-load-is-told claim =
     let begins = claim newRunner (justLoaded chartE) chartC [] past fresh (then fresh (load chartE)) refl refl tt (tt, (not-done, tt)) in
     let e : running 1 ≡ ended 1 = ap first (begins [] [] 0 (λ j e. refl) refl refl (advance 1 ∷ [])) in
     clash cc
+
+pub high-water-names-none : HighWaterNamesNone
+unfolding runs-open
+high-water-names-none claim =
+    let t : Told = record { reply = ending (notice 0) 2; buffer = [] } in
+    let e = claim (justLoaded chartD) 2 (7 ∷ []) 0 0 refl (advance 2 ∷ answer ∷ []) (tt, (tt, tt)) t (List·Memᴰ·tail (List·Memᴰ·head refl)) refl 0 2 refl in
+    false≢true e
+
+pub surveillance-names-some : SurveillanceNamesSome
+unfolding runs-open
+surveillance-names-some claim =
+    let t : Told = record { reply = ending (notice 1) 2; buffer = [] } in
+    let e = claim (justLoaded chartD) 1 (7 ∷ []) 0 0 refl (advance 2 ∷ answer ∷ []) (tt, (tt, tt)) t (List·Memᴰ·tail (List·Memᴰ·head refl)) refl in
+    absurd (omega arith)

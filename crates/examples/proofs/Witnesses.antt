@@ -13,8 +13,9 @@ use Rattle.claims.specs.Lists.{fresh, then, Accepted, begun, tells}
 use Rattle.claims.specs.Demand3.{AllowedAlike, Begins, SameLimit, tellsValue, SomeAnswer}
 use Rattle.claims.specs.OneFile.{afterLoad, NoOtherChart}
 use Rattle.claims.proofs.OneFile.{reached-final, one-file-held}
+use Rattle.claims.proofs.Inputs.{none-has}
 use Rattle.examples.specs.Charts.{chartA, chartE}
-use Rattle.examples.specs.Witnesses.{justLoaded, runBare, SecrecyIsMet, AnsweringIsMet}
+use Rattle.examples.specs.Witnesses.{justLoaded, runBare, SecrecyIsMet, NoticeIsTold, AnsweringIsMet}
 use Rattle.examples.proofs.Open.{runs-open}
 
 -- Two begins on runners that have loaded one file.
@@ -51,6 +52,18 @@ unfolding runs-open
 secrecy-is-met = (
   on-one-file chartA [] (runBare (1 ∷ 2 ∷ [])) 1 1 SameLimit (7 ∷ 9 ∷ []) (8 ∷ 9 ∷ []) 2 0 4096 refl tt (tt, (tt, tt)) refl refl refl,
   first-withheld 2 refl 7 8 (9 ∷ []),
+  refl,
+)
+
+-- Nothing is asked of inputs that are all withheld.
+none-allowed : (inputs inputs′ : List ℕ) → AllowedAlike 0 inputs inputs′
+none-allowed inputs inputs′ j e = absurd (false≢true (sym (none-has j) ∙ e))
+
+pub notice-is-told : NoticeIsTold
+unfolding runs-open
+notice-is-told = (
+  on-one-file chartA [] (runBare (1 ∷ 2 ∷ [])) 1 1 SameLimit (7 ∷ 9 ∷ []) (8 ∷ 3 ∷ []) 0 0 4096 refl tt (tt, (tt, tt)) refl refl refl,
+  none-allowed (7 ∷ 9 ∷ []) (8 ∷ 3 ∷ []),
   refl,
 )
 

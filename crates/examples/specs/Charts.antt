@@ -1,4 +1,5 @@
--- Charts A to E of document 01, as files. The two bytes of each check are written out, not computed by the definitions.
+-- Charts A to E of document 01, and charts whose notices name inputs (02, a), as files. The two bytes of each check are written out, not computed by the
+-- definitions.
 use Prim.Native.Nat.{ℕ, zero, suc, _-_}
 use mathlib.Core.List.{List, [], _∷_, _++_}
 use lib.ListN.{length, replicate}
@@ -51,3 +52,20 @@ boxesE = block (assign 31 0 0 0 1 5 ++ halt) 137 0
 
 unfoldable pub chartE : List ℕ
 chartE = headE ++ boxesE
+
+-- k 3: decides 0 equal 2, and halts either way.
+unfoldable pub chartPair : List ℕ
+chartPair = block (front 3 2 0) 76 3 ++ block (decide 0 0 2 1 1 ++ halt) 58 0
+
+-- k 2: 16 copies 1; 17 copies 16; 31 copies 17.
+unfoldable pub chartChain : List ℕ
+chartChain =
+    block (front 2 4 0) 84 3 ++ block (assign 16 1 1 0 1 0 ++ assign 17 1 16 0 2 0 ++ assign 31 1 17 0 3 0 ++ halt) 43 7
+
+-- k 2: decides 1 equal 1, and halts either way.
+unfoldable pub chartTwice : List ℕ
+chartTwice = block (front 2 2 0) 70 3 ++ block (decide 0 1 1 1 1 ++ halt) 57 0
+
+-- k 16: 31 is variable 0 plus variable 15.
+unfoldable pub chartSum : List ℕ
+chartSum = block (front 16 2 0) 154 3 ++ block (assign 31 2 0 15 1 0 ++ halt) 183 0

@@ -8,6 +8,7 @@ use Rattle.claims.specs.Demand3.{SameLimit, Secrecy, AnswersAs}
 use Rattle.claims.specs.Runs.{AdvancesJoinWhere}
 use Rattle.claims.specs.Charts.{AllKeepChart, WrittenLoadsWhere}
 use Rattle.claims.specs.OneFile.{OneFileWhere}
+use Rattle.claims.specs.Sets.{NoticesName, NamesNoneWhere}
 
 -- "High-water step counts follow withheld inputs, as 000 shows": in chart B, 3 steps for input 0 and 4 for input 4.
 abbrev pub HighWaterIsNotSecret : Type 0
@@ -43,3 +44,10 @@ NoLoadDuringARun = WrittenLoadsWhere (λ r r′. isRunning r ≡ false) → ⊥
 -- Another load between: that the runner which has yet to load the file would refuse it is not enough.
 abbrev pub AnotherLoadIsTold : Type 0
 AnotherLoadIsTold = OneFileWhere (λ file past r. AllKeepChart past r) → ⊥
+
+-- "high-water notices, carry 0": chart D's names no input, and under surveillance it names one.
+abbrev pub HighWaterNamesNone : Type 0
+HighWaterNamesNone = NoticesName 2 → ⊥
+
+abbrev pub SurveillanceNamesSome : Type 0
+SurveillanceNamesSome = NamesNoneWhere (λ mode. mode ≡ 1) → ⊥

@@ -1,8 +1,9 @@
--- The cases that document 01 marks (P), in one table: runs from files, through the calls; results of operations; and E's checks.
+-- The cases that document 01 marks (P), in one table: runs from files, through the calls; results of operations; and E's checks. Then the inputs that
+-- notices name (02, a).
 use Prim.Native.Nat.{ℕ, _^_, _<_}
 use mathlib.Core.Path.{_≡_}
 use mathlib.Core.List.{List, [], _∷_, map}
-use lib.ListN.{length}
+use lib.ListN.{length, replicate}
 use Rattle.format.specs.Block.{checksum}
 use Rattle.format.specs.File.{headerOf}
 use Rattle.operations.specs.Operation.{readBy, valueOf}
@@ -12,7 +13,7 @@ use Rattle.calls.specs.Calls.{load, begin, advance, answer}
 use Rattle.runner.specs.State.{newRunner}
 use Rattle.runner.specs.Outcomes.{Reply, done, chart, ended, ending, Told}
 use Rattle.claims.specs.Lists.{tells}
-use Rattle.examples.specs.Charts.{chartA, chartB, chartD, headE, boxesE, chartE}
+use Rattle.examples.specs.Charts.{chartA, chartB, chartD, headE, boxesE, chartE, chartPair, chartChain, chartTwice, chartSum}
 
 -- A case: a chart's file, what begin is given, and the ending with its steps; an operation, its operands and its result; or a block and its check.
 pub data Case : Type 0 where
@@ -51,22 +52,22 @@ surveillance = 1
 abbrev highWater : ℕ
 highWater = 2
 
--- The cases, where x is the input of D and of E, of which 01 says nothing.
+-- The cases, where x is the input of D and of E, of which 01 says nothing. The sets that notices carry are 02's, a.
 unfoldable pub markedCases : ℕ → List Case
 markedCases x =
     -- "A .. Inputs 7 and 9, allowed 2. (P) Surveillance: value 9, 3 steps. (P) High-water: notice, 3."
     runs chartA surveillance (7 ∷ 9 ∷ []) 2 0 (valued 9) 3
-    ∷ runs chartA highWater (7 ∷ 9 ∷ []) 2 0 notice 3
+    ∷ runs chartA highWater (7 ∷ 9 ∷ []) 2 0 (notice 0) 3
     -- "B .. Allowed 0. (P) Surveillance, inputs 0 and 4: notice, 1. (P) High-water: input 0 notice 3, input 4 notice 4. (P) Bare, input 4:
     -- limit 3 spent 3, limit 4 value 1."
-    ∷ runs chartB surveillance (0 ∷ []) 0 0 notice 1
-    ∷ runs chartB surveillance (4 ∷ []) 0 0 notice 1
-    ∷ runs chartB highWater (0 ∷ []) 0 0 notice 3
-    ∷ runs chartB highWater (4 ∷ []) 0 0 notice 4
+    ∷ runs chartB surveillance (0 ∷ []) 0 0 (notice 1) 1
+    ∷ runs chartB surveillance (4 ∷ []) 0 0 (notice 1) 1
+    ∷ runs chartB highWater (0 ∷ []) 0 0 (notice 0) 3
+    ∷ runs chartB highWater (4 ∷ []) 0 0 (notice 0) 4
     ∷ runs chartB bare (4 ∷ []) 0 3 spent 3
     ∷ runs chartB bare (4 ∷ []) 0 4 (valued 1) 4
     -- "D .. (P) Surveillance, allowed 0: notice, 2; allowed 1: value 0, 2."
-    ∷ runs chartD surveillance (x ∷ []) 0 0 notice 2
+    ∷ runs chartD surveillance (x ∷ []) 0 0 (notice 1) 2
     ∷ runs chartD surveillance (x ∷ []) 1 0 (valued 0) 2
     -- "E .. (P) Surveillance, allowed 0: value 5, 2. (P) Checks: block 0 has 832, block 1 has 137."
     ∷ runs chartE surveillance (x ∷ []) 0 0 (valued 5) 2
@@ -83,3 +84,23 @@ markedCases x =
 -- All that 01 marks (P): the eighteen cases, whatever 32-bit number is the input of D and of E.
 abbrev pub MarkedCases : Type 0
 MarkedCases = (x : ℕ) → x < 2 ^ 32 → (length (markedCases x) ≡ 18) × (map gives (markedCases x) ≡ map expected (markedCases x))
+
+-- The inputs that notices name (02, a).
+unfoldable pub namingCases : List Case
+namingCases =
+    -- "for chart D, the line `1 0 0 7` gives `notice steps 2 inputs 1`"
+    runs chartD surveillance (7 ∷ []) 0 0 (notice 1) 2
+    -- inputs 0 and 2, both withheld; input 0 allowed; high-water, which halts with the counter's mark
+    ∷ runs chartPair surveillance (1 ∷ 2 ∷ 3 ∷ []) 0 0 (notice 5) 1
+    ∷ runs chartPair surveillance (1 ∷ 2 ∷ 3 ∷ []) 1 0 (notice 4) 1
+    ∷ runs chartPair highWater (1 ∷ 2 ∷ 3 ∷ []) 0 0 (notice 0) 2
+    -- a sum of inputs 0 and 15
+    ∷ runs chartSum surveillance (replicate 16 7) 0 0 (notice 32769) 2
+    -- a chain of copies of input 1; one variable read twice; input 0 overwritten by input 1
+    ∷ runs chartChain surveillance (7 ∷ 9 ∷ []) 0 0 (notice 2) 4
+    ∷ runs chartTwice surveillance (7 ∷ 9 ∷ []) 0 0 (notice 2) 1
+    ∷ runs chartA surveillance (7 ∷ 9 ∷ []) 0 0 (notice 2) 3
+    ∷ []
+
+abbrev pub NamingCases : Type 0
+NamingCases = (length namingCases ≡ 8) × (map gives namingCases ≡ map expected namingCases)

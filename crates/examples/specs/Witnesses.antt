@@ -2,7 +2,7 @@
 use Prim.Native.Nat.{ℕ}
 use mathlib.Core.Path.{_≡_}
 use mathlib.Core.List.{List, [], _∷_, map}
-use Rattle.machine.specs.Run.{valued}
+use Rattle.machine.specs.Run.{valued, notice}
 use Rattle.calls.specs.Calls.{Call, load, begin, advance, answer, abandon, writeBack}
 use Rattle.runner.specs.declared.Runner.{Runner}
 use Rattle.runner.specs.State.{newRunner}
@@ -32,6 +32,13 @@ SecrecyIsMet =
     Begins 1 1 SameLimit (justLoaded chartA) (loadedAndRun chartA (1 ∷ 2 ∷ [])) (7 ∷ 9 ∷ []) (8 ∷ 9 ∷ []) 2 0 4096
     × AllowedAlike 2 (7 ∷ 9 ∷ []) (8 ∷ 9 ∷ [])
     × Replies (advance 4096 ∷ answer ∷ []) (begun 1 (7 ∷ 9 ∷ []) 2 0 (justLoaded chartA)) (ended 3 ∷ ending (valued 9) 3 ∷ [])
+
+-- And with inputs 0 and 1 withheld, so that a notice is told: chart A names input 1, which 31 copies last, and not the other.
+abbrev pub NoticeIsTold : Type 0
+NoticeIsTold =
+    Begins 1 1 SameLimit (justLoaded chartA) (loadedAndRun chartA (1 ∷ 2 ∷ [])) (7 ∷ 9 ∷ []) (8 ∷ 3 ∷ []) 0 0 4096
+    × AllowedAlike 0 (7 ∷ 9 ∷ []) (8 ∷ 3 ∷ [])
+    × Replies (advance 4096 ∷ answer ∷ []) (begun 1 (7 ∷ 9 ∷ []) 0 0 (justLoaded chartA)) (ended 3 ∷ ending (notice 2) 3 ∷ [])
 
 -- The second half: chart E with its input withheld and limit 2. High-water tells value 5 in 2 steps; under surveillance two advances add up to
 -- the limit, in a list of calls of every kind, "advance, answer, write back and refused calls".

@@ -7,7 +7,7 @@ use lib.Bits.{bitOr, or-zero-r}
 use borrow.Author.Tests.{eq-eqb, ne-eqb}
 use Rattle.operations.specs.Operation.{readBy, valueOf, compares}
 use Rattle.operations.proofs.ReadLaws.{read-map}
-use Rattle.marks.specs.Marks.{union, targetMark, decisionNotice, counterMark, haltNotice}
+use Rattle.marks.specs.Marks.{union, targetMark, decisionNotice, counterMark, haltNotice, namedBy}
 use Rattle.marks.specs.declared.Mode.{Mode}
 use Rattle.decode.specs.Decode.{meaning}
 use Rattle.decode.specs.declared.FlowBox.{FlowBox}
@@ -35,9 +35,9 @@ module _ (mode : Mode) (b : FlowBox) (vars marks : List ℕ) (counter : ℕ) whe
   both i j = rw or-zero-r
 
   module _ (c i j next other n : ℕ) (d : b ≡ Decide c i j next other) (en : n ≡ decisionNotice mode (bitOr (entry marks i) (entry marks j))) where
-    pub notice-act : (n ≡ 0 → ⊥) → Notice ≡ act mode (meaning b) vars marks counter
+    pub notice-act : (named : ℕ) → (n ≡ 0 → ⊥) → named ≡ namedBy mode n → Notice named ≡ act mode (meaning b) vars marks counter
     unfolding act meaning
-    notice-act e = sym (by-kind _ d ∙ rw (both i j, sym en, ne-eqb n 0 e))
+    notice-act named e em = sym (by-kind _ d ∙ rw (both i j, sym en, ne-eqb n 0 e, em))
 
     pub go-act : (after to : ℕ) (holds : Bool) → n ≡ 0
         → after ≡ counterMark mode counter (bitOr (entry marks i) (entry marks j))
@@ -48,9 +48,9 @@ module _ (mode : Mode) (b : FlowBox) (vars marks : List ℕ) (counter : ℕ) whe
     go-act after to holds e ec eh et = sym (by-kind _ d ∙ rw (both i j, sym en, eq-eqb n 0 e, et, eh, ec))
 
   module _ (n : ℕ) (d : b ≡ Halt) (en : n ≡ haltNotice mode counter (entry marks 31)) where
-    pub halt-notice-act : (n ≡ 0 → ⊥) → Notice ≡ act mode (meaning b) vars marks counter
+    pub halt-notice-act : (named : ℕ) → (n ≡ 0 → ⊥) → named ≡ namedBy mode n → Notice named ≡ act mode (meaning b) vars marks counter
     unfolding act meaning
-    halt-notice-act e = sym (by-kind _ d ∙ rw (sym en, ne-eqb n 0 e))
+    halt-notice-act named e em = sym (by-kind _ d ∙ rw (sym en, ne-eqb n 0 e, em))
 
     pub halt-value-act : (v : ℕ) → v ≡ entry vars 31 → n ≡ 0 → Value v ≡ act mode (meaning b) vars marks counter
     unfolding act meaning

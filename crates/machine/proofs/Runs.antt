@@ -1,11 +1,20 @@
--- Laws of `run`: boxes add up, what is over stays as it is, and how a loop that counts down takes the first box and ends.
+-- Laws of `run`: boxes add up, what is over stays as it is, how a loop that counts down takes the first box and ends. What holds where a box goes on, or ends the
+-- run with a notice or spent, holds of what it comes to; and what each box keeps, boxes keep.
 -- Assumes nothing.
 use Prim.Native.Nat.{ℕ, zero, suc, _+_, _-_, _<_, _≤_}
 use mathlib.Core.Path.{_≡_, refl, ap, _∙_}
 use mathlib.Core.List.{List}
+use mathlib.Core.Bool.{Bool, true, false, cond}
 use native.Mathlib.Nat.{suc-add, zero-add}
 use native.Mathlib.Omega.{arith}
-use Rattle.machine.specs.Run.{Run, Ending, Progress, going, over, step, onward, run}
+use lib.Dec.{leb}
+use borrow.Author.Tests.{leb-false}
+use Rattle.marks.specs.Marks.{marked, namedBy}
+use Rattle.marks.specs.declared.Mode.{Mode}
+use Rattle.machine.specs.Act.{noticeOr}
+use Rattle.machine.specs.Run.{Run, Ending, notice, spent, Progress, going, over, goesOn, settle, step, onward, run}
+use Rattle.machine.specs.declared.Act.{Act}
+use Rattle.machine.specs.declared.Act.the-variants.{Notice}
 
 module _ (table : List ℕ) where
   pub run-add : (m n : ℕ) (p : Progress) → run table (m + n) p ≡ run table n (run table m p)
@@ -29,6 +38,33 @@ module _ (table : List ℕ) where
   unfolding run
   run-none zero p h = refl
   run-none (suc n) p h = let z : ⊥ = omega arith in absurd z
+
+  -- What each box keeps, m boxes keep.
+  pub run-keeps : (Good : Progress → Type 0) → ((q : Run) → Good (going q) → Good (step table q)) → (m : ℕ) (p : Progress) → Good p → Good (run table m p)
+  unfolding run onward
+  run-keeps Good f zero p h = h
+  run-keeps Good f (suc m) (going q) h = run-keeps Good f m (step table q) (f q h)
+  run-keeps Good f (suc m) (over e steps) h = run-keeps Good f m (over e steps) h
+
+-- A box that goes on: the run is spent, or below its limit. One that may give a notice gives it, or does something else.
+module _ (Good : Progress → Type 0) where
+  pub goes-by : (q : Run) → Good (over spent (q .steps)) → (q .steps < q .limit → Good (going q)) → Good (goesOn q)
+  unfolding goesOn
+  goes-by q ends goes = on (leb (q .limit) (q .steps)) refl
+    where
+      on : (b : Bool) → leb (q .limit) (q .steps) ≡ b → Good (cond b (over spent (q .steps)) (going q))
+      on true e = ends
+      on false e = goes (leb-false _ _ e)
+
+  pub notice-by : (m : Mode) (stops : ℕ) (other : Act) (q : Run) → (marked stops ≡ true → Good (over (notice (namedBy m stops)) (q .steps + 1)))
+      → (marked stops ≡ false → Good (settle other q))
+      → Good (settle (noticeOr m stops other) q)
+  unfolding settle
+  notice-by m stops other q ends goes = on (marked stops) refl
+    where
+      on : (b : Bool) → marked stops ≡ b → Good (settle (cond b (Notice (namedBy m stops)) other) q)
+      on true e = ends e
+      on false e = goes e
 
 -- A run that is over after n boxes is over so after more.
 pub over-twice : (table : List ℕ) (p : Progress) (e : Ending) (n steps m : ℕ) → run table n p ≡ over e steps → run table (n + m) p ≡ over e steps

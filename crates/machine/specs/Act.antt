@@ -4,7 +4,7 @@ use mathlib.Core.List.{List, map}
 use mathlib.Core.Bool.{cond}
 use lib.ListN.{getD}
 use Rattle.decode.specs.Decode.{Box, assigns, decides, halts}
-use Rattle.marks.specs.Marks.{marked, union, targetMark, decisionNotice, counterMark, haltNotice}
+use Rattle.marks.specs.Marks.{marked, union, targetMark, decisionNotice, counterMark, haltNotice, namedBy}
 use Rattle.marks.specs.declared.Mode.{Mode}
 use Rattle.machine.specs.declared.Act.{Act}
 use Rattle.machine.specs.declared.Act.the-variants.{Store, Go, Value, Notice}
@@ -17,6 +17,10 @@ entry numbers v = getD numbers (v % 32) 0
 abbrev pub entries : List ℕ → List ℕ → List ℕ
 entries numbers reads = map (entry numbers) reads
 
+-- A notice where there are marks for one, and else another act.
+abbrev pub noticeOr : Mode → (marks : ℕ) → Act → Act
+noticeOr mode marks other = cond (marked marks) (Notice (namedBy mode marks)) other
+
 -- The act of a box, by the mode, the variables, their marks and the counter mark. It stores a value and a mark, goes to a box with a counter mark,
 -- or ends the run.
 unfoldable pub act : Mode → Box → (vars marks : List ℕ) → ℕ → Act
@@ -24,6 +28,5 @@ act mode (assigns target reads gives next) vars marks counter =
     Store target (gives (entries vars reads)) (targetMark mode (entry marks target) (union (entries marks reads))) next
 act mode (decides reads holds next other) vars marks counter =
     let read = union (entries marks reads) in
-    cond (marked (decisionNotice mode read)) Notice
-    (Go (cond (holds (entries vars reads)) next other) (counterMark mode counter read))
-act mode halts vars marks counter = cond (marked (haltNotice mode counter (entry marks 31))) Notice (Value (entry vars 31))
+    noticeOr mode (decisionNotice mode read) (Go (cond (holds (entries vars reads)) next other) (counterMark mode counter read))
+act mode halts vars marks counter = noticeOr mode (haltNotice mode counter (entry marks 31)) (Value (entry vars 31))

@@ -21,10 +21,11 @@ pub record Run : Type 0 where
   pub limit : ℕ
   pub steps : ℕ
 
--- The kind of an ending, with "the value if there is one".
+-- The kind of an ending, with "the value if there is one", and 02, a: the set that a notice carries.
 pub data Ending : Type 0 where
   valued : ℕ → Ending
-  notice spent : Ending
+  notice : (named : ℕ) → Ending
+  spent : Ending
 
 -- What a run has come to: it goes on, or it is over after so many steps.
 pub data Progress : Type 0 where
@@ -47,7 +48,7 @@ settle (Store target value mark next) q =
     goesOn (moved q (set (q .vars) (target % 32) value) (set (q .marks) (target % 32) mark) (q .counter) next)
 settle (Go next counter) q = goesOn (moved q (q .vars) (q .marks) counter next)
 settle (Value v) q = over (valued v) (q .steps + 1)
-settle Notice q = over notice (q .steps + 1)
+settle (Notice named) q = over (notice named) (q .steps + 1)
 
 -- The box at hand is run.
 abbrev pub step : (table : List ℕ) → Run → Progress

@@ -6,20 +6,20 @@ ghost use mathlib.Core.Bool.{cond};
 ghost use Rattle.decode.specs.Decode.{meaning};
 ghost use Rattle.machine.specs.Act.{act};
 
-// It stores a value and a mark, it goes to a box with a counter mark, or it ends the run.
+// It stores a value and a mark, it goes to a box with a counter mark, or it ends the run with a value or with a notice that names these inputs.
 pub enum Act {
     Store {
         target: u8,
         value: u32,
-        mark: u8,
+        mark: u16,
         next: u8,
     },
     Go {
         next: u8,
-        counter: u8,
+        counter: u16,
     },
     Value(u32),
-    Notice,
+    Notice(u16),
 }
 
 fn way(holds: bool, next: u8, other: u8) -> u8
@@ -32,8 +32,8 @@ pub fn run_box<'a>(
     mode: Mode,
     b: FlowBox,
     vars: &'a [u32; 32],
-    marks: &'a [u8; 32],
-    counter: u8,
+    marks: &'a [u16; 32],
+    counter: u16,
 ) -> Act
     ensures { λ r. ⌜ r ≡ act mode (meaning b) (now (vars .entry)) (now (marks .entry)) counter ⌝ }
 {
@@ -69,8 +69,9 @@ pub fn run_box<'a>(
             let i = (left % 32) as usize;
             let j = (right % 32) as usize;
             let read = marks[i] | marks[j];
-            if marks::decision_notice(mode, read) != 0 {
-                return Act::Notice;
+            let stops = marks::decision_notice(mode, read);
+            if stops != 0 {
+                return Act::Notice(marks::named_by(mode, stops));
             }
             let holds = operations::compare(comparison, vars[i], vars[j]);
             let to = way(holds, next, other);
@@ -81,10 +82,12 @@ pub fn run_box<'a>(
             }
         }
         FlowBox::Halt => {
-            if marks::halt_notice(mode, counter, marks[31]) != 0 {
-                return Act::Notice;
+            let ends = marks::halt_notice(mode, counter, marks[31]);
+            if ends != 0 {
+                return Act::Notice(marks::named_by(mode, ends));
             }
-            Act::Value(vars[31])
+            let output = vars[31];
+            Act::Value(output)
         }
     }
 }

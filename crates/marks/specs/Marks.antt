@@ -1,4 +1,4 @@
--- The rules of the marks in each mode. A mark is a number, 0 where there is none; these rules see no value.
+-- The rules of the marks in each mode. A mark is a set of withheld inputs, a number whose bit j is input j; these rules see no value.
 use Prim.Native.Nat.{ℕ}
 use mathlib.Core.List.{List, [], _∷_}
 use mathlib.Core.Bool.{Bool, cond, not}
@@ -11,10 +11,11 @@ use Rattle.marks.specs.declared.Mode.the-variants.{Bare, Surveillance, H
 unfoldable pub modeOf : ℕ → Mode
 modeOf mode = cond (eqb mode 0) Bare (cond (eqb mode 1) Surveillance HighWater)
 
+-- 02, a: "Each mark becomes a set of withheld inputs, empty exactly where 01 has no mark." So "The classes of the high-water mark are two".
 abbrev pub marked : ℕ → Bool
 marked mark = not (eqb mark 0)
 
--- The union of the marks read: marked where any of them is.
+-- 02, a: "where 01 marks a target or the counter from some variables' marks, the new set is the union of those sets".
 unfoldable pub union : List ℕ → ℕ
 union [] = 0
 union (m ∷ marks) = bitOr m (union marks)
@@ -36,11 +37,16 @@ targetMark mode before read = byMode mode before read (bitOr before read)
 abbrev pub decisionNotice : Mode → (read : ℕ) → ℕ
 decisionNotice mode read = byMode mode 0 read 0
 
--- High-water: "A decision sets the counter mark if it reads a marked variable, then goes on."
+-- High-water: "A decision sets the counter mark if it reads a marked variable, then goes on." 02, a: "the counter also keeps what it had".
 abbrev pub counterMark : Mode → (counter read : ℕ) → ℕ
 counterMark mode counter read = byMode mode counter counter (bitOr counter read)
 
--- The marks for which a halt gives a notice. "Bare: halt gives the value of variable 31." Surveillance: "Halt gives a notice if 31 is marked, else the value." High-water: "Halt gives a
--- notice if 31 or the counter is marked, else the value."
+-- The marks for which a halt gives a notice, 0 where it gives the value. "Bare: halt gives the value of variable 31." Surveillance: "Halt gives a
+-- notice if 31 is marked, else the value." High-water: "Halt gives a notice if 31 or the counter is marked, else the value."
 abbrev pub haltNotice : Mode → (counter output : ℕ) → ℕ
 haltNotice mode counter output = byMode mode 0 output (bitOr counter output)
+
+-- The set that a notice carries, of the marks for which it is given. 02, a: "A surveillance notice carries the set of the variables read by the
+-- decision, or of variable 31 at halt. All other endings, and high-water notices, carry 0."
+abbrev pub namedBy : Mode → (marks : ℕ) → ℕ
+namedBy mode marks = byMode mode 0 marks 0

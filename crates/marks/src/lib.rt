@@ -1,7 +1,8 @@
-// The marks: what an assignment leaves on its target, what a decision and a halt do, by the mode. A mark of 0 is no mark.
+// The marks: what an assignment leaves on its target, what a decision and a halt do, by the mode. A mark is a set of withheld inputs, a number whose bit j is input j;
+// 0 is no mark.
 ghost use mathlib.Core.Path.{_≡_};
 ghost use Rattle.operations.specs.Operation.{readBy};
-ghost use Rattle.marks.specs.Marks.{modeOf, union, byMode, targetMark, decisionNotice, counterMark, haltNotice};
+ghost use Rattle.marks.specs.Marks.{modeOf, union, byMode, targetMark, decisionNotice, counterMark, haltNotice, namedBy};
 
 pub enum Mode {
     Bare,
@@ -21,7 +22,7 @@ pub fn mode_of(number: u8) -> Mode
 }
 
 // The union of the marks that operation `op` reads, of those of its left and right operands.
-pub fn read_mark(op: u8, left: u8, right: u8) -> u8
+pub fn read_mark(op: u8, left: u16, right: u16) -> u16
     ensures { λ m. ⌜ m ≡ union (readBy op left right) ⌝ }
 {
     match op {
@@ -32,7 +33,7 @@ pub fn read_mark(op: u8, left: u8, right: u8) -> u8
 }
 
 // A rule by the mode.
-fn by_mode(mode: Mode, bare: u8, surveillance: u8, high: u8) -> u8
+fn by_mode(mode: Mode, bare: u16, surveillance: u16, high: u16) -> u16
     ensures { λ m. ⌜ m ≡ byMode mode bare surveillance high ⌝ }
 {
     match mode {
@@ -43,29 +44,36 @@ fn by_mode(mode: Mode, bare: u8, surveillance: u8, high: u8) -> u8
 }
 
 // The mark of the target after an assignment, from its mark before and the marks read.
-pub fn target_mark(mode: Mode, before: u8, read: u8) -> u8
+pub fn target_mark(mode: Mode, before: u16, read: u16) -> u16
     ensures { λ m. ⌜ m ≡ targetMark mode before read ⌝ }
 {
     by_mode(mode, before, read, before | read)
 }
 
 // The marks for which a decision that reads these ends the run with a notice; 0 where it goes on.
-pub fn decision_notice(mode: Mode, read: u8) -> u8
+pub fn decision_notice(mode: Mode, read: u16) -> u16
     ensures { λ m. ⌜ m ≡ decisionNotice mode read ⌝ }
 {
     by_mode(mode, 0, read, 0)
 }
 
 // The counter mark after a decision that reads these marks.
-pub fn counter_mark(mode: Mode, counter: u8, read: u8) -> u8
+pub fn counter_mark(mode: Mode, counter: u16, read: u16) -> u16
     ensures { λ m. ⌜ m ≡ counterMark mode counter read ⌝ }
 {
     by_mode(mode, counter, counter, counter | read)
 }
 
 // The marks for which a halt gives a notice, of the counter mark and the mark of variable 31; 0 where it gives the value.
-pub fn halt_notice(mode: Mode, counter: u8, output: u8) -> u8
+pub fn halt_notice(mode: Mode, counter: u16, output: u16) -> u16
     ensures { λ m. ⌜ m ≡ haltNotice mode counter output ⌝ }
 {
     by_mode(mode, 0, output, counter | output)
+}
+
+// The set that a notice carries, which is given for these marks.
+pub fn named_by(mode: Mode, marks: u16) -> u16
+    ensures { λ m. ⌜ m ≡ namedBy mode marks ⌝ }
+{
+    by_mode(mode, 0, marks, 0)
 }

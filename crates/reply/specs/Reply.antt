@@ -15,7 +15,7 @@ use Rattle.runner.specs.declared.Runner.{Runner}
 
 unfoldable pub endingText : Ending → ℕ → List ℕ
 endingText (valued value) steps = valueText value steps
-endingText notice steps = noticeText steps
+endingText (notice named) steps = noticeText steps named
 endingText spent steps = spentText steps
 
 -- The text of a reply; the program prints no other replies than load's, answer's and refusals.

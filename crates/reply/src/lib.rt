@@ -55,7 +55,7 @@ fn print_answer(told: AnswerTold, out: &mut [u8]) -> usize
 {
     match told {
         AnswerTold::Value { value, steps } => texts::print_value(value, steps, out),
-        AnswerTold::Notice(steps) => texts::print_notice(steps, out),
+        AnswerTold::Notice { named, steps } => texts::print_notice(steps, named, out),
         AnswerTold::Spent(steps) => texts::print_spent(steps, out),
         AnswerTold::Refused(refusal) => {
             texts::print_refused(refusal.number, refusal.detail as u64, out)

@@ -57,7 +57,7 @@ module _ (mode : ℕ) (inputs : List ℕ) (allowed limit : ℕ) (r : Runner) whe
   -- A run at its start, with these variables, marks and limit.
   abbrev startedWith : (vars marks : List ℕ) → ℕ → Runner
   startedWith vars marks l =
-      runnerOf (chartIn r) (record { vars = vars; marks = marks; counter = 0; mode = mode; at = r .header .first; limit = l; steps = 0 }) 1 0 0
+      runnerOf (chartIn r) (record { vars = vars; marks = marks; counter = 0; mode = mode; at = r .header .first; limit = l; steps = 0 }) 1 0 0 0
 
   pub begin-accepts : (vars marks : List ℕ) (l : ℕ) → Done ≡ check (calls.begin mode inputs allowed limit) (standingOf r)
       → vars ≡ firstVars inputs → marks ≡ firstMarks allowed (r .header .inputs) → l ≡ effective limit
@@ -116,7 +116,7 @@ module _ (r : Runner) where
   unfolding answerReply
   answer-value l e = sym (rw (eq-eqb _ _ e)) ∙ answer-tells l
 
-  pub answer-notice : 2 ≤ r .state → r .state ≡ 3 → outcome (answerReply (answer.Notice (r .took))) [] r ≡ call calls.answer r
+  pub answer-notice : 2 ≤ r .state → r .state ≡ 3 → outcome (answerReply (answer.Notice (r .named) (r .took))) [] r ≡ call calls.answer r
   unfolding answerReply
   answer-notice l e = sym (rw e) ∙ answer-tells l
 

@@ -16,8 +16,8 @@ use Rattle.runner.specs.State.{chartIn, standingOf, endingIn, underWay, 
 use Rattle.runner.specs.Whole.{startOf}
 
 -- What a call replies: load "tells k and n"; "Begin and abandon tell only that they were done"; advance "tells "running" or "ended", and the
--- steps so far"; answer "tells the ending: its kind, its steps and the value if there is one"; write back "tells the file's length"; a refusal
--- "gives its number and a detail".
+-- steps so far"; answer "tells the ending: its kind, its steps and the value if there is one", and the set that a notice carries; write back "tells
+-- the file's length"; a refusal "gives its number and a detail".
 pub data Reply : Type 0 where
   done : Reply
   chart : (inputs boxes : ℕ) → Reply

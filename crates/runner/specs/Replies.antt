@@ -27,7 +27,7 @@ advanceReply (advance.Refused x) = turnedAway x
 
 unfoldable pub answerReply : AnswerTold → Reply
 answerReply (answer.Value v steps) = ending (valued v) steps
-answerReply (answer.Notice steps) = ending notice steps
+answerReply (answer.Notice named steps) = ending (notice named) steps
 answerReply (answer.Spent steps) = ending spent steps
 answerReply (answer.Refused x) = turnedAway x
 

@@ -31,20 +31,27 @@ standingOf r = standing (r .header) (isRunning r) (isEnded r)
 -- The kinds of ending are states 2, 3 and 4.
 abbrev pub stateOf : Ending → ℕ
 stateOf (valued v) = 2
-stateOf notice = 3
+stateOf (notice named) = 3
 stateOf spent = 4
 
+-- What an ending carries: a value, 0 where there is none; and 02, a: the set of a notice, where "All other endings .. carry 0".
 abbrev pub valueIn : Ending → ℕ
 valueIn (valued v) = v
-valueIn notice = 0
+valueIn (notice named) = 0
 valueIn spent = 0
 
-abbrev pub endingIn : Runner → Ending
-endingIn r = cond (eqb (r .state) 2) (valued (r .value)) (cond (eqb (r .state) 3) notice spent)
+abbrev pub namedIn : Ending → ℕ
+namedIn (valued v) = 0
+namedIn (notice named) = named
+namedIn spent = 0
 
--- The runner of a chart, a run, a state, and of an ended run the steps that it took and its value: every runner is built here.
-abbrev pub runnerOf : Chart → Run → (state took value : ℕ) → Runner
-runnerOf c q state took value =
+abbrev pub endingIn : Runner → Ending
+endingIn r = cond (eqb (r .state) 2) (valued (r .value)) (cond (eqb (r .state) 3) (notice (r .named)) spent)
+
+-- The runner of a chart, a run, a state, and of an ended run the steps that it took, its value and the set that it names: every runner is built
+-- here.
+abbrev pub runnerOf : Chart → Run → (state took value named : ℕ) → Runner
+runnerOf c q state took value named =
     record {
       header = c .header;
       table = c .table;
@@ -58,6 +65,7 @@ runnerOf c q state took value =
       state = state;
       took = took;
       value = value;
+      named = named;
     }
 
 -- The run in a runner.
@@ -65,16 +73,20 @@ abbrev pub runIn : Runner → Run
 runIn r =
     record { vars = r .vars; marks = r .marks; counter = r .counter; mode = r .mode; at = r .at; limit = r .limit; steps = r .steps }
 
+-- The runner with another run in the place of its own.
+abbrev pub withRun : Run → Runner → Runner
+withRun q r = runnerOf (chartIn r) q (r .state) (r .took) (r .value) (r .named)
+
 -- "When a run ends or is dropped, the variables, their marks and the counter mark become 0", and so does every other number of the run.
 abbrev pub noRun : Run
 noRun = record { vars = replicate 32 0; marks = replicate 32 0; counter = 0; mode = 0; at = 0; limit = 0; steps = 0 }
 
 -- A runner with a chart and a run under way, and with a chart and nothing else.
 abbrev pub underWay : Chart → Run → Runner
-underWay c q = runnerOf c q 1 0 0
+underWay c q = runnerOf c q 1 0 0 0
 
 abbrev pub idle : Chart → Runner
-idle c = runnerOf c noRun 0 0 0
+idle c = runnerOf c noRun 0 0 0 0
 
 -- "A new runner holds no chart: its box table is 2,040 zero bytes."
 unfoldable pub newRunner : Runner
@@ -82,7 +94,7 @@ newRunner = idle (record { header = record { inputs = 0; boxes = 0; first = 0 };
 
 -- "When a run ends or is dropped": the chart stays, with the ending or without.
 unfoldable pub endedWith : Ending → (steps : ℕ) → Runner → Runner
-endedWith e steps r = runnerOf (chartIn r) noRun (stateOf e) steps (valueIn e)
+endedWith e steps r = runnerOf (chartIn r) noRun (stateOf e) steps (valueIn e) (namedIn e)
 
 unfoldable pub dropped : Runner → Runner
 dropped r = idle (chartIn r)
@@ -92,5 +104,5 @@ abbrev pub ran : ℕ → Runner → Progress
 ran m r = run (r .table) m (going (runIn r))
 
 unfoldable pub resumed : Progress → Runner → Runner
-resumed (going q) r = runnerOf (chartIn r) q (r .state) (r .took) (r .value)
+resumed (going q) r = withRun q r
 resumed (over e steps) r = endedWith e steps r

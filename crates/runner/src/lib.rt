@@ -17,13 +17,13 @@ ghost use Rattle.runner.specs.Replies.{loadReply, verdictReply, advanceR
 
 // The chart that is held: its header and the box table. Of a run under way: the variables, their marks, the counter mark, the mode, the box at
 // hand, the limit and the steps so far. `state` is 0 without a run, 1 with one under way, and 2, 3 or 4 where one has ended with a value, a
-// notice or spent; it `took` so many steps, and its value is `value`.
+// notice or spent; it `took` so many steps, its value is `value`, and its notice names the inputs of the set `named`.
 pub struct Runner {
     header: Header,
     table: [u8; 2040],
     vars: [u32; 32],
-    marks: [u8; 32],
-    counter: u8,
+    marks: [u16; 32],
+    counter: u16,
     mode: u8,
     at: u8,
     limit: u16,
@@ -31,6 +31,7 @@ pub struct Runner {
     state: u8,
     took: u32,
     value: u32,
+    named: u16,
 }
 
 // What load tells.
@@ -65,7 +66,7 @@ pub struct Advanced {
 // What answer tells: the ending.
 pub enum AnswerTold {
     Value { value: u32, steps: u32 },
-    Notice(u32),
+    Notice { named: u16, steps: u32 },
     Spent(u32),
     Refused(Refusal),
 }
@@ -105,6 +106,7 @@ impl Runner {
             state: 0,
             took: 0,
             value: 0,
+            named: 0,
         }
     }
 
@@ -122,6 +124,7 @@ impl Runner {
         self.state = 0;
         self.took = 0;
         self.value = 0;
+        self.named = 0;
         self
     }
 
@@ -173,6 +176,7 @@ impl Runner {
                 self.state = 1;
                 self.took = 0;
                 self.value = 0;
+                self.named = 0;
             }
             Verdict::Refused(_) => {}
         }
@@ -191,6 +195,7 @@ impl Runner {
         let mut steps = self.steps as u32;
         let mut end: u8 = 1;
         let mut value: u32 = 0;
+        let mut named: u16 = 0;
         while 0 < todo {
             todo = todo - 1;
             steps = steps + 1;
@@ -217,8 +222,9 @@ impl Runner {
                     value = v;
                     break;
                 }
-                Act::Notice => {
+                Act::Notice(set) => {
                     end = 3;
+                    named = set;
                     break;
                 }
             }
@@ -241,6 +247,7 @@ impl Runner {
             self.state = end;
             self.took = steps;
             self.value = value;
+            self.named = named;
         }
         let told = tell(running, end, steps);
         Advanced { told, runner: self }
@@ -276,7 +283,10 @@ impl Runner {
                 value: self.value,
                 steps,
             },
-            3 => AnswerTold::Notice(steps),
+            3 => AnswerTold::Notice {
+                named: self.named,
+                steps,
+            },
             _ => AnswerTold::Spent(steps),
         }
     }

@@ -28,6 +28,9 @@ const NOT_SHOWN: u32 = 46;
 
 const WRITTEN: u32 = 47;
 
+// Notices that name no input, one, and more.
+const NAMED: u32 = 48;
+
 // Where a call is counted that told this; one that was just done is counted at `done`.
 pub fn place(t: Encoded, done: u32) -> u32 {
     let kind = t.kind;
@@ -42,4 +45,16 @@ pub fn place(t: Encoded, done: u32) -> u32 {
         kinds::SHOWN => if first == 0 { NOT_SHOWN } else { SHOWN },
         _ => ANSWERS,
     }
+}
+
+// Where an ending is counted by the inputs that it names; nowhere that is printed, where it is no notice.
+pub fn named(t: Encoded) -> u32 {
+    if t.kind != kinds::NOTICE {
+        return 0;
+    }
+    let inputs = u32::count_ones(t.second);
+    if 1 < inputs {
+        return NAMED + 2;
+    }
+    if inputs == 1 { NAMED + 1 } else { NAMED }
 }

@@ -204,6 +204,7 @@ impl Pair {
         match kind {
             kinds::VALUE | kinds::NOTICE | kinds::SPENT => {
                 pair.count(counts::ENDED + 3 * (kind - kinds::VALUE) + mode)
+                    .count(counts::named(answer))
             }
             _ => pair.differ(b"answer after the end", answer, answer),
         }

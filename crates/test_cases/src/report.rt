@@ -38,7 +38,7 @@ chart inputs % boxes %
 running steps %
 ended steps %
 value % steps %
-notice steps %
+notice steps % inputs %
 spent steps %
 refused % detail %
 written %
@@ -97,8 +97,9 @@ advances: running %, ended %
 files loaded: 1024 bytes %, 1536 bytes %, 2048 bytes %, 2560 bytes %
 boxes: shown %, not shown %
 files written back: %
+notices that name: no input %, one %, more %
 ",
-        &all[25..48],
+        &all[25..51],
     );
     refusals(counts);
 }

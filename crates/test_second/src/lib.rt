@@ -18,9 +18,10 @@ use machine::withheld;
 use rules::judged;
 use rules::size_of;
 
-// What a call tells. Kinds: 0 done; 1 chart (k, n); 2 running, 3 ended, 5 notice, 6 spent (steps);
-// 4 value (value, steps); 7 refused (number, detail); 8 written (length). An unused field is 0. They are
-// said here again because this crate was written apart from `told`, and is compared with it.
+// What a call tells. Kinds: 0 done; 1 chart (k, n); 2 running, 3 ended, 6 spent (steps);
+// 4 value (value, steps); 5 notice (steps, set), the set of the inputs named, bit j for input j;
+// 7 refused (number, detail); 8 written (length). An unused field is 0. They are said here again
+// because this crate was written apart from `told`, and is compared with it.
 pub struct Told {
     pub kind: u32,
     pub first: u32,
@@ -32,14 +33,14 @@ pub struct Model {
     file: [u8; 2560],
     length: u32,
     vars: [u32; 32],
-    marks: u32,
+    marks: [u32; 16],
     counter: u32,
     mode: u32,
     at: u32,
     steps: u32,
     limit: u32,
     phase: u32,
-    value: u32,
+    carried: u32,
 }
 
 // The model that follows a call, and what the call tells.
@@ -117,48 +118,51 @@ impl Model {
     pub fn new() -> Model {
         let file = [0u8; 2560];
         let vars = [0u32; 32];
+        let marks = [0u32; 16];
         Model {
             file,
             length: 0,
             vars,
-            marks: 0,
+            marks,
             counter: 0,
             mode: 0,
             at: 0,
             steps: 0,
             limit: 0,
             phase: 0,
-            value: 0,
+            carried: 0,
         }
     }
 
     // The fields of a run, apart from the file: a box run copies these alone.
     fn run(self) -> Run {
         let vars = self.vars;
+        let marks = self.marks;
         Run {
             vars,
-            marks: self.marks,
+            marks,
             counter: self.counter,
             mode: self.mode,
             at: self.at,
             steps: self.steps,
             limit: self.limit,
             phase: self.phase,
-            value: self.value,
+            carried: self.carried,
         }
     }
 
     fn with_run(mut self, run: Run) -> Model {
         let vars = run.vars;
+        let marks = run.marks;
         self.vars = vars;
-        self.marks = run.marks;
+        self.marks = marks;
         self.counter = run.counter;
         self.mode = run.mode;
         self.at = run.at;
         self.steps = run.steps;
         self.limit = run.limit;
         self.phase = run.phase;
-        self.value = run.value;
+        self.carried = run.carried;
         self
     }
 
@@ -186,6 +190,7 @@ impl Model {
         self.file = bytes;
         self.length = size_of(file);
         self.phase = 0;
+        self.carried = 0;
         let told = Told {
             kind: 1,
             first: byte(file, 5),
@@ -255,10 +260,15 @@ impl Model {
         match phase {
             4 => Told {
                 kind: 4,
-                first: self.value,
+                first: self.carried,
                 second: self.steps,
             },
-            5 | 6 => counted(phase, self.steps),
+            5 => Told {
+                kind: 5,
+                first: self.steps,
+                second: self.carried,
+            },
+            6 => counted(6, self.steps),
             _ => refused(24, 0),
         }
     }

@@ -6,18 +6,20 @@ use crate::numbers::result;
 use crate::rules::reads_left;
 use crate::rules::reads_right;
 
-// Bit v of `marks` marks variable v. `phase` is 0 with no run, 1 under way, and the kind that
-// answer tells once the run has ended: 4 value, 5 notice, 6 spent.
+// Word j of `marks` is about input j alone: its bit v is set where the set of variable v has input j.
+// `counter` is one set, bit j for input j. `phase` is 0 with no run, 1 under way, and the kind that
+// answer tells once the run has ended: 4 value, 5 notice, 6 spent. `carried` goes with the phase: the
+// value of 4, the set that 5 names, else 0.
 pub struct Run {
     pub vars: [u32; 32],
-    pub marks: u32,
+    pub marks: [u32; 16],
     pub counter: u32,
     pub mode: u32,
     pub at: u32,
     pub steps: u32,
     pub limit: u32,
     pub phase: u32,
-    pub value: u32,
+    pub carried: u32,
 }
 
 // 2 to the power of `v`, which is below 32.
@@ -25,13 +27,24 @@ pub fn bit(v: u32) -> u32 {
     1u32 << (v % 32)
 }
 
-// The marks of a begin: the inputs below `k` that are not in `allowed`, itself a set of such inputs.
+// The set of the inputs below `k` that are not in `allowed`, itself a set of such inputs.
 pub fn withheld(k: u32, allowed: u32) -> u32 {
     let inputs = std::num::wrapping_sub_u32(bit(k), 1);
     std::num::wrapping_sub_u32(inputs, allowed)
 }
 
-pub fn begun(vars: [u32; 32], marks: u32, mode: u32, first: u32, limit: u32) -> Run {
+// The marks that give each input of `set` itself alone, and every other variable nothing.
+fn alone(set: u32) -> [u32; 16] {
+    let mut marks = [0u32; 16];
+    for j in 0..16 {
+        marks[j] = set & bit(j as u32);
+    }
+    marks
+}
+
+// A run at box `first`, with the inputs in `set` withheld.
+pub fn begun(vars: [u32; 32], set: u32, mode: u32, first: u32, limit: u32) -> Run {
+    let marks = alone(set);
     Run {
         vars,
         marks,
@@ -41,48 +54,65 @@ pub fn begun(vars: [u32; 32], marks: u32, mode: u32, first: u32, limit: u32) -> 
         steps: 0,
         limit,
         phase: 1,
-        value: 0,
+        carried: 0,
     }
 }
 
-fn is_marked(marks: u32, v: u32) -> bool {
-    marks & bit(v) != 0
+// The variables that an operation reads, bit v for variable v; an operand that it does not read
+// counts for nothing.
+fn read_by(operation: u32, left: u32, right: u32) -> u32 {
+    let mut read: u32 = 0;
+    if reads_left(operation) {
+        read = bit(left);
+    }
+    if reads_right(operation) {
+        read = read | bit(right);
+    }
+    read
 }
 
-fn with_mark(marks: u32, v: u32, on: bool) -> u32 {
-    if on {
-        return marks | bit(v);
+// The union of the sets of the variables in `read`: the inputs whose words meet it.
+fn named(marks: &[u32; 16], read: u32) -> u32 {
+    let mut set: u32 = 0;
+    for j in 0..16 {
+        if marks[j] & read != 0 {
+            set = set | bit(j as u32);
+        }
     }
-    if is_marked(marks, v) {
-        return marks ^ bit(v);
-    }
-    marks
+    set
 }
 
-// The marks after an assignment to `target` that reads a marked variable, or none.
-fn marks_after(mode: u32, marks: u32, target: u32, dark: bool) -> u32 {
+// The word of one input after a guarded assignment to `target` from the variables in `read`.
+fn word_after(mode: u32, word: u32, target: u32, read: u32) -> u32 {
+    if word & read != 0 {
+        return word | bit(target);
+    }
+    if (mode == 2) | (word & bit(target) == 0) {
+        return word;
+    }
+    word ^ bit(target)
+}
+
+// The marks after an assignment; a bare run leaves them as they are. Each word follows from itself:
+// no rule lets one input into a set because of another.
+fn marks_after(mode: u32, marks: [u32; 16], target: u32, read: u32) -> [u32; 16] {
+    let mut after = marks;
     if mode == 0 {
-        return marks;
+        return after;
     }
-    if (mode == 2) & is_marked(marks, target) {
-        return marks;
+    for j in 0..16 {
+        after[j] = word_after(mode, after[j], target, read);
     }
-    with_mark(marks, target, dark)
-}
-
-// Whether an operation reads a marked variable; an operand that it does not read counts for nothing.
-fn is_dark(operation: u32, marks: u32, left: u32, right: u32) -> bool {
-    (reads_left(operation) & is_marked(marks, left))
-        | (reads_right(operation) & is_marked(marks, right))
+    after
 }
 
 // The end of a run, or no run at all where `phase` is 0.
-pub fn stopped(mut run: Run, phase: u32, value: u32) -> Run {
+pub fn stopped(mut run: Run, phase: u32, carried: u32) -> Run {
     run.vars = [0u32; 32];
-    run.marks = 0;
+    run.marks = [0u32; 16];
     run.counter = 0;
     run.phase = phase;
-    run.value = value;
+    run.carried = carried;
     run
 }
 
@@ -101,8 +131,8 @@ fn assigned(mut run: Run, file: &[u8]) -> Run {
     let y = run.vars[j];
     let z = result(operation, constant(file, at), x, y);
     run.vars[t] = z;
-    let dark = is_dark(operation, marks, left, right);
-    run.marks = marks_after(mode, marks, target, dark);
+    let after = marks_after(mode, marks, target, read_by(operation, left, right));
+    run.marks = after;
     run.at = field(file, at, 5);
     run
 }
@@ -111,14 +141,14 @@ fn decided(mut run: Run, file: &[u8]) -> Run {
     let at = run.at;
     let mode = run.mode;
     let marks = run.marks;
+    let counter = run.counter;
     let left = field(file, at, 3);
     let right = field(file, at, 4);
-    if is_marked(marks, left) | is_marked(marks, right) {
-        if mode == 1 {
-            return stopped(run, 5, 0);
-        }
-        run.counter = 1;
+    let set = named(&marks, bit(left) | bit(right));
+    if (mode == 1) & (set != 0) {
+        return stopped(run, 5, set);
     }
+    run.counter = counter | set;
     let i = (left % 32) as usize;
     let j = (right % 32) as usize;
     let x = run.vars[i];
@@ -136,10 +166,12 @@ fn halted(run: Run) -> Run {
     let marks = run.marks;
     let counter = run.counter;
     let value = run.vars[31];
-    if (mode != 0) & is_marked(marks, 31) {
-        return stopped(run, 5, 0);
+    let set = named(&marks, bit(31));
+    if (mode == 1) & (set != 0) {
+        return stopped(run, 5, set);
     }
-    if (mode == 2) & (counter != 0) {
+    // A high-water notice names nothing.
+    if (mode == 2) & ((set | counter) != 0) {
         return stopped(run, 5, 0);
     }
     stopped(run, 4, value)

@@ -37,7 +37,6 @@ fn print_steps(kind: u32, steps: u64) {
     match kind {
         kinds::RUNNING => say(b"running"),
         kinds::ENDED => say(b"ended"),
-        kinds::NOTICE => say(b"notice"),
         _ => say(b"spent"),
     }
     number(b" steps ", steps);
@@ -53,6 +52,7 @@ fn print_told(words: &[u8], t: Encoded) {
         kinds::DONE => say(b"done"),
         kinds::CHART => two(b"chart inputs ", first, b" boxes ", second),
         kinds::VALUE => two(b"value ", first, b" steps ", second),
+        kinds::NOTICE => two(b"notice steps ", first, b" inputs ", second),
         kinds::REFUSED => two(b"refused ", first, b" detail ", second),
         kinds::WRITTEN => number(b"length ", first),
         _ => print_steps(kind, first),
@@ -123,14 +123,15 @@ fn print_file(file: &[u8]) {
     print_check(later);
 }
 
-// An input by the mark that a run begins with: an allowed one has none.
-fn print_input(words: &[u8], mark: u8) {
+// An input by the set that it begins a run with: an allowed one begins with none.
+fn print_input(words: &[u8], mark: u16) {
     say(words);
     if mark == 0 {
-        say(b"bit 1, allowed\n");
+        say(b"bit 1, allowed, begins with set 0\n");
         return;
     }
-    say(b"bit 0, withheld\n");
+    number(b"bit 0, withheld, begins with set ", mark as u64);
+    say(b"\n");
 }
 
 fn print_allowed() {

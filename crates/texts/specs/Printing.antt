@@ -39,9 +39,14 @@ unfoldable pub valueText : ℕ → ℕ → List ℕ
 valueText value steps =
     longSentence (118 ∷ 97 ∷ 108 ∷ 117 ∷ 101 ∷ 32 ∷ []) value (32 ∷ 115 ∷ 116 ∷ 101 ∷ 112 ∷ 115 ∷ 32 ∷ []) steps
 
--- `notice steps `.
-unfoldable pub noticeText : ℕ → List ℕ
-noticeText steps = sentence (110 ∷ 111 ∷ 116 ∷ 105 ∷ 99 ∷ 101 ∷ 32 ∷ 115 ∷ 116 ∷ 101 ∷ 112 ∷ 115 ∷ 32 ∷ []) steps
+-- `notice steps `, ` inputs `. 02, a: "The run program prints the set as a decimal number after each notice".
+unfoldable pub noticeText : ℕ → ℕ → List ℕ
+noticeText steps named =
+    longSentence
+    (110 ∷ 111 ∷ 116 ∷ 105 ∷ 99 ∷ 101 ∷ 32 ∷ 115 ∷ 116 ∷ 101 ∷ 112 ∷ 115 ∷ 32 ∷ [])
+    steps
+    (32 ∷ 105 ∷ 110 ∷ 112 ∷ 117 ∷ 116 ∷ 115 ∷ 32 ∷ [])
+    named
 
 -- `spent steps `.
 unfoldable pub spentText : ℕ → List ℕ

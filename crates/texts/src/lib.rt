@@ -76,11 +76,17 @@ pub fn print_value(value: u32, steps: u32, out: &mut [u8]) -> usize
     print_long_sentence(b"value ", value as u64, b" steps ", steps as u64, out)
 }
 
-pub fn print_notice(steps: u32, out: &mut [u8]) -> usize
-    ensures { λ r. ⌜ r ≡ printedLength (noticeText steps) (length (now (out .entry))) ⌝ }
-    ensures { λ _. ⌜ now (out .exit) ≡ printed (noticeText steps) (now (out .entry)) ⌝ }
+pub fn print_notice(steps: u32, named: u16, out: &mut [u8]) -> usize
+    ensures { λ r. ⌜ r ≡ printedLength (noticeText steps named) (length (now (out .entry))) ⌝ }
+    ensures { λ _. ⌜ now (out .exit) ≡ printed (noticeText steps named) (now (out .entry)) ⌝ }
 {
-    print_sentence(b"notice steps ", steps as u64, out)
+    print_long_sentence(
+        b"notice steps ",
+        steps as u64,
+        b" inputs ",
+        named as u64,
+        out,
+    )
 }
 
 pub fn print_spent(steps: u32, out: &mut [u8]) -> usize

@@ -14,7 +14,7 @@ decode t =
     (cond (eqb (t .kind) 2) (running (t .first))
     (cond (eqb (t .kind) 3) (ended (t .first))
     (cond (eqb (t .kind) 4) (ending (valued (t .first)) (t .second))
-    (cond (eqb (t .kind) 5) (ending notice (t .first))
+    (cond (eqb (t .kind) 5) (ending (notice (t .second)) (t .first))
     (cond (eqb (t .kind) 6) (ending spent (t .first))
     (cond (eqb (t .kind) 7) (refused (t .first) (t .second))
     (wrote (t .first)))))))))
@@ -26,7 +26,7 @@ decoded (chart inputs boxes) = refl
 decoded (running steps) = refl
 decoded (ended steps) = refl
 decoded (ending (valued v) steps) = refl
-decoded (ending notice steps) = refl
+decoded (ending (notice named) steps) = refl
 decoded (ending spent steps) = refl
 decoded (wrote bytes) = refl
 decoded (refused number detail) = refl

@@ -10,7 +10,7 @@ numbers kind first second = record { kind = kind; first = first; second = second
 
 unfoldable pub endingNumbers : Ending → ℕ → Encoded
 endingNumbers (valued value) steps = numbers 4 value steps
-endingNumbers notice steps = numbers 5 steps 0
+endingNumbers (notice named) steps = numbers 5 steps named
 endingNumbers spent steps = numbers 6 steps 0
 
 -- The kind of each reply, and its values.

@@ -13,7 +13,7 @@ pub const ENDED: u32 = 3;
 // (value, steps)
 pub const VALUE: u32 = 4;
 
-// (steps)
+// (steps, the set of inputs that it names)
 pub const NOTICE: u32 = 5;
 
 // (steps)

@@ -69,7 +69,7 @@ pub fn of_answer(told: AnswerTold) -> Encoded
 {
     match told {
         AnswerTold::Value { value, steps } => make(kinds::VALUE, value as u64, steps),
-        AnswerTold::Notice(steps) => make(kinds::NOTICE, steps as u64, 0),
+        AnswerTold::Notice { named, steps } => make(kinds::NOTICE, steps as u64, named as u32),
         AnswerTold::Spent(steps) => make(kinds::SPENT, steps as u64, 0),
         AnswerTold::Refused(refusal) => of_refusal(refusal),
     }

@@ -21,8 +21,8 @@ abbrev μ-loop : tie.MeasureT-loop
 to-usize-requires : tie.Need-to-usize-requires Inv-loop μ-loop
 to-usize-requires c κs = search needs
 
-at-most-32-requires : tie.Need-at-most-32-requires Inv-loop μ-loop
-at-most-32-requires c κs = search needs
+at-most-requires : tie.Need-at-most-requires Inv-loop μ-loop
+at-most-requires c κs = search needs
 
 loop-holds : tie.Need-loop-holds Inv-loop μ-loop
 unfolding withheldMarks
@@ -30,6 +30,9 @@ loop-holds c = search needs
 
 withheld-mark-requires : tie.Need-withheld-mark-requires Inv-loop μ-loop
 withheld-mark-requires c κs = search needs
+
+mul-marks : tie.Need-mul-marks Inv-loop μ-loop
+mul-marks c = search needs
 
 array-write-marks : tie.Need-array-write-marks Inv-loop μ-loop
 array-write-marks c = search needs
@@ -59,9 +62,10 @@ first-marks-spec =
     Inv-loop
     μ-loop
     to-usize-requires
-    at-most-32-requires
+    at-most-requires
     loop-holds
     withheld-mark-requires
+    mul-marks
     array-write-marks
     add-j
     loop-less

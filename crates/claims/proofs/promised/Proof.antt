@@ -3,8 +3,10 @@ use Rattle.claims.proofs.Demand3.{demand3}
 use Rattle.claims.proofs.OneFile.{one-file}
 use Rattle.claims.proofs.RunLaws.{refusal-changes-nothing, advances-join, no-operation-stops, counts-boxes, limit-ends, tells-whole-run, within-limit, cleared}
 use Rattle.claims.proofs.ChartLaws.{held-obeys, runs-in-range, ends-in-range, loaded-is-written, written-is-loaded}
+use Rattle.claims.proofs.Marking.{empty-where-unmarked, sets-are-unions, sets-only-name}
+use Rattle.claims.proofs.Naming.{marks-withheld, names-withheld, surveillance-names, others-name-none}
 use Rattle.claims.proofs.Replies.{replies-distinct}
-use Rattle.claims.proofs.Bounds.{answers-at-the-limit, runs-within-bounds, written-into-exact-room, held-within-bounds, states-within-bounds}
+use Rattle.claims.proofs.Bounds.{answers-at-the-limit, runs-within-bounds, written-into-exact-room, held-within-bounds, states-within-bounds, names-within-bounds}
 use Rattle.claims.proofs.promised.Statement.{statement}
 use Rattle.claims.proofs.promised.Tie as tie
 
@@ -26,11 +28,19 @@ returns c = (
   loaded-is-written,
   written-is-loaded,
   replies-distinct,
+  empty-where-unmarked,
+  sets-are-unions,
+  sets-only-name,
+  marks-withheld,
+  names-withheld,
+  surveillance-names,
+  others-name-none,
   answers-at-the-limit,
   runs-within-bounds,
   written-into-exact-room,
   held-within-bounds,
   states-within-bounds,
+  names-within-bounds,
 )
 
 pub promised-spec : {M : Type 1} → statement M

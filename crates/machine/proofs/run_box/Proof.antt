@@ -32,14 +32,26 @@ element-copy-out-result-2 c = search needs
 result-requires : tie.Need-result-requires
 result-requires c κs = search needs
 
+-- src/lib.rt:53:45
+mul-read-mark : tie.Need-mul-read-mark
+mul-read-mark c = search needs
+
 element-copy-out-read-mark : tie.Need-element-copy-out-read-mark
 element-copy-out-read-mark c = search needs
+
+-- src/lib.rt:53:55
+mul-read-mark-2 : tie.Need-mul-read-mark-2
+mul-read-mark-2 c = search needs
 
 element-copy-out-read-mark-2 : tie.Need-element-copy-out-read-mark-2
 element-copy-out-read-mark-2 c = search needs
 
 read-mark-requires : tie.Need-read-mark-requires
 read-mark-requires c κs = search needs
+
+-- src/lib.rt:54:49
+mul-target-mark : tie.Need-mul-target-mark
+mul-target-mark c = search needs
 
 element-copy-out-target-mark : tie.Need-element-copy-out-target-mark
 element-copy-out-target-mark c = search needs
@@ -56,8 +68,16 @@ cast-i-2 c = search needs
 cast-j-2 : tie.Need-cast-j-2
 cast-j-2 c = search needs
 
+-- src/lib.rt:71:24
+mul-read : tie.Need-mul-read
+mul-read c = search needs
+
 element-copy-out-read : tie.Need-element-copy-out-read
 element-copy-out-read c = search needs
+
+-- src/lib.rt:71:35
+mul-read-2 : tie.Need-mul-read-2
+mul-read-2 c = search needs
 
 element-copy-out-read-2 : tie.Need-element-copy-out-read-2
 element-copy-out-read-2 c = search needs
@@ -65,10 +85,14 @@ element-copy-out-read-2 c = search needs
 decision-notice-requires : tie.Need-decision-notice-requires
 decision-notice-requires c κs = search needs
 
+-- src/lib.rt:74:36
+named-by-requires : tie.Need-named-by-requires
+named-by-requires c κs = search needs
+
 returns : tie.Need-returns
 returns c =
-    let noticed = c .before in
-    notice-act _ _ _ _ _ _ _ _ _ _ _ (noticed .before .before .before .before .b2 .given .1) (noticed .decision-notice .ensures) (c .if1 .taken)
+    let noticed = c .before .before in
+    notice-act _ _ _ _ _ _ _ _ _ _ _ (noticed .before .before .before .before .b2 .given .1) (noticed .decision-notice .ensures) _ (c .before .if1 .taken) (c .named-by .ensures)
 
 mul-compare : tie.Need-mul-compare
 mul-compare c = search needs
@@ -100,12 +124,18 @@ element-copy-out-halt-notice c = search needs
 halt-notice-requires : tie.Need-halt-notice-requires
 halt-notice-requires c κs = search needs
 
+-- src/lib.rt:87:36
+named-by-requires-2 : tie.Need-named-by-requires-2
+named-by-requires-2 c κs = search needs
+
 returns-2 : tie.Need-returns-2
 returns-2 c =
-    halt-notice-act _ _ _ _ _ _ (c .before .before .before .enum-told .given .1) (c .before .halt-notice .ensures) (c .if2 .taken)
+    let noticed = c .before .before in
+    halt-notice-act _ _ _ _ _ _ (noticed .before .before .enum-told .given .1) (noticed .halt-notice .ensures) _ (c .before .if2 .taken) (c .named-by2 .ensures)
 
-element-copy-out-t68 : tie.Need-element-copy-out-t68
-element-copy-out-t68 c = search needs
+-- src/lib.rt:89:24
+element-copy-out-output : tie.Need-element-copy-out-output
+element-copy-out-output c = search needs
 
 returns-3 : tie.Need-returns-3
 returns-3 c =
@@ -140,17 +170,23 @@ run-box-spec =
     mul-result-2
     element-copy-out-result-2
     result-requires
+    mul-read-mark
     element-copy-out-read-mark
+    mul-read-mark-2
     element-copy-out-read-mark-2
     read-mark-requires
+    mul-target-mark
     element-copy-out-target-mark
     target-mark-requires
     enum-known-b-2
     cast-i-2
     cast-j-2
+    mul-read
     element-copy-out-read
+    mul-read-2
     element-copy-out-read-2
     decision-notice-requires
+    named-by-requires
     returns
     mul-compare
     element-copy-out-compare
@@ -162,8 +198,9 @@ run-box-spec =
     enum-told
     element-copy-out-halt-notice
     halt-notice-requires
+    named-by-requires-2
     returns-2
-    element-copy-out-t68
+    element-copy-out-output
     returns-3
     returns-4
     returns-5)

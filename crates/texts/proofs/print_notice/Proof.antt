@@ -4,11 +4,14 @@ use borrow.Author.Needs.{needs}
 use Rattle.texts.proofs.print_notice.Statement.{statement}
 use Rattle.texts.proofs.print_notice.Tie as tie
 
-slice-aggregate-print-sentence : tie.Need-slice-aggregate-print-sentence
-slice-aggregate-print-sentence c = search needs
+slice-aggregate-print-long-sentence : tie.Need-slice-aggregate-print-long-sentence
+slice-aggregate-print-long-sentence c = search needs
 
-print-sentence-requires : tie.Need-print-sentence-requires
-print-sentence-requires c κs = search needs
+slice-aggregate-print-long-sentence-2 : tie.Need-slice-aggregate-print-long-sentence-2
+slice-aggregate-print-long-sentence-2 c = search needs
+
+print-long-sentence-requires : tie.Need-print-long-sentence-requires
+print-long-sentence-requires c κs = search needs
 
 same-length : tie.Need-same-length
 same-length c = search needs
@@ -19,4 +22,10 @@ returns c = search needs
 
 pub print-notice-spec : {M : Type 1} → statement M
 print-notice-spec =
-    tie.close (tie.spec slice-aggregate-print-sentence print-sentence-requires same-length returns)
+    tie.close
+    (tie.spec
+    slice-aggregate-print-long-sentence
+    slice-aggregate-print-long-sentence-2
+    print-long-sentence-requires
+    same-length
+    returns)

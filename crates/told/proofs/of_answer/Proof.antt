@@ -20,14 +20,17 @@ enum-known-told-2 c = search needs
 cast-make-2 : tie.Need-cast-make-2
 cast-make-2 c = search needs
 
+cast-make-3 : tie.Need-cast-make-3
+cast-make-3 c = search needs
+
 make-requires-2 : tie.Need-make-requires-2
 make-requires-2 c κs = search needs
 
 enum-known-told-3 : tie.Need-enum-known-told-3
 enum-known-told-3 c = search needs
 
-cast-make-3 : tie.Need-cast-make-3
-cast-make-3 c = search needs
+cast-make-4 : tie.Need-cast-make-4
+cast-make-4 c = search needs
 
 make-requires-3 : tie.Need-make-requires-3
 make-requires-3 c κs = search needs
@@ -63,9 +66,10 @@ of-answer-spec =
     make-requires
     enum-known-told-2
     cast-make-2
+    cast-make-3
     make-requires-2
     enum-known-told-3
-    cast-make-3
+    cast-make-4
     make-requires-3
     enum-known-told-4
     of-refusal-requires

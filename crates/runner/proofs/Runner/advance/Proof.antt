@@ -16,7 +16,7 @@ use Rattle.runner.proofs.Runner.advance.Statement.{statement}
 use Rattle.runner.proofs.Runner.advance.Tie as tie
 
 abbrev Inv-loop : tie.InvT-loop
-Inv-loop m self₀ running limit mode todo₀ at₀ steps₀ end₀ value₀ self todo at steps end value =
+Inv-loop m self₀ running limit mode todo₀ at₀ steps₀ end₀ value₀ named₀ self todo at steps end value named =
     (run (self₀ .table) (cond running m 0) (going (runIn self₀)) ≡ run (self₀ .table) todo (going (seen self at steps)))
     × (todo ≤ cond running m 0)
     × Stored self₀ self
@@ -25,10 +25,11 @@ Inv-loop m self₀ running limit mode todo₀ at₀ steps₀ end₀ value₀ sel
     × (steps < 2 ^ 16)
     × (end ≡ 1)
     × (value ≡ 0)
+    × (named ≡ 0)
     × (limit < 2 ^ 16)
 
 abbrev μ-loop : tie.MeasureT-loop
-μ-loop m self₀ running limit mode todo₀ at₀ steps₀ end₀ value₀ self todo at steps end value = todo
+μ-loop m self₀ running limit mode todo₀ at₀ steps₀ end₀ value₀ named₀ self todo at steps end value named = todo
 
 -- Where the arms of a box that does not end the run meet: it goes on in what was stored.
 meets : (c : tie.At-match-came Inv-loop μ-loop) → let at-loop = c .before .before .before .before .before .before .before .before .before in
@@ -56,7 +57,7 @@ meets c =
 
 -- Where the loop is left: no box is to run, a halt gives a value, a decision or a halt a notice, or the limit is reached.
 over : (c : tie.Left-loop Inv-loop μ-loop) → let q = c .loop-test in let a = c .before .before .before .before .args in
-    CameTo (a .t1 .table) (cond (isRunning (a .t1)) (a .m) 0) (runIn (a .t1)) (q .self) (q .at) (q .end) (q .value) (q .steps) × Stored (a .t1) (q .self)
+    CameTo (a .t1 .table) (cond (isRunning (a .t1)) (a .m) 0) (runIn (a .t1)) (q .self) (q .at) (q .end) (q .value) (q .named) (q .steps) × Stored (a .t1) (q .self)
 unfolding settle
 over c =
     let l = c .before .loop in
@@ -70,17 +71,17 @@ over c =
     ))
     (⊎-elim
     (λ w. (
-      came-over _ _ (l .todo) _ _ (l .inv .0) (w .0 .taken) (valued _) (q .self) (q .at) (q .end) (q .value) (q .steps)
+      came-over _ _ (l .todo) _ _ (l .inv .0) (w .0 .taken) (valued _) (q .self) (q .at) (q .end) (q .value) (q .named) (q .steps)
           (acts (l .self) r _ (l .at) (l .steps) (w .3 .result) (w .7 .result) stored (l .inv .4) (w .3 .ensures) (w .7 .ensures) _ (w .9 .given .1))
-          (w .15) (w .16) (w .14),
+          (w .15) (w .16) (w .17 ∙ l .inv .8) (w .14),
       rw (w .11) stored,
     ))
     (⊎-elim
     (λ w. (
-      came-over _ _ (l .todo) _ _ (l .inv .0) (w .0 .taken) notice (q .self) (q .at) (q .end) (q .value) (q .steps)
+      came-over _ _ (l .todo) _ _ (l .inv .0) (w .0 .taken) (notice _) (q .self) (q .at) (q .end) (q .value) (q .named) (q .steps)
           (acts (l .self) r _ (l .at) (l .steps) (w .3 .result) (w .7 .result) stored (l .inv .4) (w .3 .ensures) (w .7 .ensures) _ (w .9 .given .1))
-          (w .14) (w .15 ∙ l .inv .7) (w .13),
-      rw (w .10) stored,
+          (w .15) (w .16 ∙ l .inv .7) (w .17) (w .14),
+      rw (w .11) stored,
     ))
     (λ w.
     let boxed : tie.After-box-at Inv-loop μ-loop =
@@ -89,9 +90,9 @@ over c =
     record { before = record { before = record { before = record { before = boxed; self2 = w .4 }; run-box-arg = w .5 }; run-box-arg2 = w .6 }; run-box = w .7 } in
     let at = meets (record { before = lent; match = w .8 }) in
     let limit = ap (λ (x : Runner). x .limit) (at .1) in (
-      came-over _ _ (l .todo) _ _ (l .inv .0) (w .0 .taken) spent (q .self) (q .at) (q .end) (q .value) (q .steps)
+      came-over _ _ (l .todo) _ _ (l .inv .0) (w .0 .taken) spent (q .self) (q .at) (q .end) (q .value) (q .named) (q .steps)
           (at .0 ∙ goes-spent _ (omega (arith, w .9 .taken, l .inv .3, limit)))
-          (w .14) (w .15 ∙ l .inv .7) (w .13),
+          (w .14) (w .15 ∙ l .inv .7) (w .16 ∙ l .inv .8) (w .13),
       rw (w .10) (at .1),
     ))))
     (q .came)
@@ -116,6 +117,7 @@ loop-holds c = (
   refl,
   c .before .mode-of .ensures,
   search needs,
+  refl,
   refl,
   refl,
   search needs,
@@ -145,6 +147,9 @@ mul-self c = search needs
 element-write-self : tie.Need-element-write-self Inv-loop μ-loop
 element-write-self c = search needs
 
+mul-self-2 : tie.Need-mul-self-2 Inv-loop μ-loop
+mul-self-2 c = search needs
+
 element-write-self-2 : tie.Need-element-write-self-2 Inv-loop μ-loop
 element-write-self-2 c = search needs
 
@@ -154,8 +159,8 @@ enum-known-done-2 c = search needs
 enum-known-done-3 : tie.Need-enum-known-done-3 Inv-loop μ-loop
 enum-known-done-3 c = search needs
 
-enum-told : tie.Need-enum-told Inv-loop μ-loop
-enum-told c = search needs
+enum-known-done-4 : tie.Need-enum-known-done-4 Inv-loop μ-loop
+enum-known-done-4 c = search needs
 
 loop-less : tie.Need-loop-less Inv-loop μ-loop
 loop-less c = search needs
@@ -171,10 +176,11 @@ loop-again c =
       at .1,
       l .inv .3,
       l .inv .4,
-      omega (arith, c .if1 .left, l .inv .8),
+      omega (arith, c .if1 .left, l .inv .9),
       l .inv .6,
       l .inv .7,
       l .inv .8,
+      l .inv .9,
     )
 
 cast-self : tie.Need-cast-self Inv-loop μ-loop
@@ -188,7 +194,7 @@ tell-requires c κs = search needs
 returns : tie.Need-returns Inv-loop μ-loop
 returns c =
     let came = over (c .before .before) in
-    advance-came _ _ (c .before .before .loop-test .self) _ _ _ _ _ _ (came .1)
+    advance-came _ _ (c .before .before .loop-test .self) _ _ _ _ _ _ _ (came .1)
     (λ e. ⊎-elim (λ w. w .2) (λ w. absurd (w .0 .left e)) (c .before .if2 .came))
     (λ n. ⊎-elim (λ w. absurd (n (w .0 .taken))) (λ w. w .3) (c .before .if2 .came))
     _ refl (came .0) (c .tell .ensures)
@@ -212,10 +218,11 @@ advance-spec =
     cast-t
     mul-self
     element-write-self
+    mul-self-2
     element-write-self-2
     enum-known-done-2
     enum-known-done-3
-    enum-told
+    enum-known-done-4
     loop-less
     loop-again
     cast-self

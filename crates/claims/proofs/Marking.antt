@@ -1,0 +1,210 @@
+-- The rules of the sets, seen through any question that the empty set answers with no and that unions join, are 01's on marked and unmarked: whether a set is
+-- empty, and whether an input is in it. And a run whose sets are seen as marks goes as the run does, box by box, since each rule by the mode and each
+-- union commutes with seeing a set as a mark. Assumes nothing.
+use Prim.Native.Nat.{ℕ, zero, suc, _%_, _^_, _≤_, _<_}
+use mathlib.Core.Path.{_≡_, refl, ap, sym, _∙_}
+use mathlib.Core.List.{List, [], _∷_, map}
+use mathlib.Core.Bool.{Bool, true, false, cond, not, _&&_, _||_}
+use native.Mathlib.Decide.{decLt}
+use native.Mathlib.Omega.{arith}
+use lib.Bits.{bitOr, or-comm}
+use lib.Dec.{eqb, ltb, leb}
+use lib.ListN.{getD, set, List·getD-map}
+use lib.Pow.{pow-pos}
+use borrow.Author.Tests.{lt-ltb, le-ltb, ne-eqb}
+use Rattle.decode.specs.Decode.{boxAt, Box, assigns, decides, halts, meaning}
+use Rattle.marks.specs.Marks.{modeOf, marked, union, byMode, targetMark, decisionNotice, counterMark, haltNotice, namedBy}
+use Rattle.marks.specs.declared.Mode.{Mode}
+use Rattle.marks.specs.declared.Mode.the-variants.{Bare, Surveillance, HighWater}
+use Rattle.marks.proofs.MarkLaws.{marked-or}
+use Rattle.machine.specs.Act.{entry, entries, noticeOr, act}
+use Rattle.machine.specs.Run.{Run, spent, Progress, going, over, moved, goesOn, settle, onward, run}
+use Rattle.machine.specs.declared.Act.{Act}
+use Rattle.machine.specs.declared.Act.the-variants.{Store, Go, Value, Notice}
+use Rattle.begin.specs.Begin.{has, allows, withheldMark, firstMarks}
+use Rattle.begin.proofs.Begins.{marks-at, marks-past}
+use Rattle.claims.specs.Sets.{anyMarked, targetMarked, decisionStops, counterMarked, haltStops, SeenAsMarks, EmptyWhereUnmarked, SetsAreUnions}
+use Rattle.claims.specs.Sets.{asMark, asMarks, progressAsMarks, SetsOnlyName}
+use Rattle.claims.proofs.Inputs.{none-has, or-has, alone-has}
+
+-- A question that no input answers with yes, and a union exactly where one of its parts does.
+module _ (sees : ℕ → Bool) (none : sees 0 ≡ false) (join : (a b : ℕ) → sees (bitOr a b) ≡ (sees a || sees b)) where
+  union-seen : (read : List ℕ) → sees (union read) ≡ anyMarked (map sees read)
+  unfolding union anyMarked
+  union-seen [] = none
+  union-seen (m ∷ read) = join m (union read) ∙ ap (λ (b : Bool). sees m || b) (union-seen read)
+
+  joined-seen : (old : ℕ) (read : List ℕ) → sees (bitOr old (union read)) ≡ (sees old || anyMarked (map sees read))
+  joined-seen old read = join old (union read) ∙ ap (λ (b : Bool). sees old || b) (union-seen read)
+
+  target-seen : (mode : Mode) (target : ℕ) (read : List ℕ) → sees (targetMark mode target (union read)) ≡ targetMarked mode (sees target) (map sees read)
+  target-seen Bare target read = refl
+  target-seen Surveillance target read = union-seen read
+  target-seen HighWater target read = joined-seen target read
+
+  decision-seen : (mode : Mode) (read : List ℕ) → sees (decisionNotice mode (union read)) ≡ decisionStops mode (map sees read)
+  decision-seen Bare read = none
+  decision-seen Surveillance read = union-seen read
+  decision-seen HighWater read = none
+
+  counter-seen : (mode : Mode) (counter : ℕ) (read : List ℕ) → sees (counterMark mode counter (union read)) ≡ counterMarked mode (sees counter) (map sees read)
+  counter-seen Bare counter read = refl
+  counter-seen Surveillance counter read = refl
+  counter-seen HighWater counter read = joined-seen counter read
+
+  halt-seen : (mode : Mode) (counter output : ℕ) → sees (haltNotice mode counter output) ≡ haltStops mode (sees counter) (sees output)
+  halt-seen Bare counter output = none
+  halt-seen Surveillance counter output = refl
+  halt-seen HighWater counter output = ap sees (or-comm counter output) ∙ join output counter
+
+  seen-as-marks : SeenAsMarks sees
+  seen-as-marks = record { assigns = target-seen; decides = decision-seen; counts = counter-seen; halts = halt-seen }
+
+  -- And the mark that each variable begins with, where the question is known of one input's set.
+  first-seen : (alone : ℕ → Bool) → ((j : ℕ) → sees (2 ^ j) ≡ alone j) → (allowed k v : ℕ) → k ≤ 16
+      → sees (getD (firstMarks allowed k) v 0) ≡ ((ltb v k && not (allows allowed v)) && alone v)
+  unfolding withheldMark
+  first-seen alone own allowed k v f = on (decLt v k)
+    where
+      by : (b : Bool) → sees (cond b 0 (2 ^ v)) ≡ (not b && alone v)
+      by true = none
+      by false = own v
+
+      on : Dec (v < k) → sees (getD (firstMarks allowed k) v 0) ≡ ((ltb v k && not (allows allowed v)) && alone v)
+      on (yes l) = ap sees (marks-at allowed k v f l) ∙ by (allows allowed v) ∙ rw (lt-ltb v k l)
+      on (no n) = ap sees (marks-past allowed k v (omega arith)) ∙ none ∙ rw (le-ltb v k (omega arith))
+
+alone-marked : (j : ℕ) → marked (2 ^ j) ≡ true
+alone-marked j = rw (ne-eqb (2 ^ j) 0 (λ e. omega (arith, pow-pos j)))
+
+and-true : (b : Bool) → (b && true) ≡ b
+and-true true = refl
+and-true false = refl
+
+pub empty-where-unmarked : EmptyWhereUnmarked
+empty-where-unmarked = (
+  (λ allowed k v f. first-seen marked refl marked-or (λ j. true) alone-marked allowed k v f ∙ and-true (ltb v k && not (allows allowed v))),
+  seen-as-marks marked refl marked-or,
+)
+
+pub sets-are-unions : SetsAreUnions
+sets-are-unions j = (
+  first-seen (λ set. has set j) (none-has j) (λ a b. or-has a b j) (λ v. eqb v j) (λ v. alone-has v j),
+  seen-as-marks (λ set. has set j) (none-has j) (λ a b. or-has a b j),
+)
+
+-- A set seen as a mark is marked where it is; so unions and the rules by the mode.
+as-marked : (a : ℕ) → marked (asMark a) ≡ marked a
+as-marked a = on (marked a)
+  where
+    on : (b : Bool) → marked (cond b 1 0) ≡ b
+    on true = refl
+    on false = refl
+
+as-or : (a b : ℕ) → bitOr (asMark a) (asMark b) ≡ asMark (bitOr a b)
+as-or a b = on (marked a) (marked b) ∙ ap (λ (x : Bool). cond x 1 0) (sym (marked-or a b))
+  where
+    on : (x y : Bool) → bitOr (cond x 1 0) (cond y 1 0) ≡ cond (x || y) 1 0
+    on true true = refl
+    on true false = refl
+    on false true = refl
+    on false false = refl
+
+as-mode : (m : Mode) (a b c : ℕ) → byMode m (asMark a) (asMark b) (asMark c) ≡ asMark (byMode m a b c)
+as-mode Bare a b c = refl
+as-mode Surveillance a b c = refl
+as-mode HighWater a b c = refl
+
+as-entry : (marks : List ℕ) (v : ℕ) → entry (map asMark marks) v ≡ asMark (entry marks v)
+as-entry marks v = List·getD-map asMark marks (v % 32) 0
+
+as-union : (marks reads : List ℕ) → union (entries (map asMark marks) reads) ≡ asMark (union (entries marks reads))
+unfolding union
+as-union marks [] = refl
+as-union marks (v ∷ reads) =
+    ap (λ (x : ℕ). bitOr x (union (entries (map asMark marks) reads))) (as-entry marks v)
+    ∙ ap (bitOr (asMark (entry marks v))) (as-union marks reads)
+    ∙ as-or (entry marks v) (union (entries marks reads))
+
+-- The act of a box.
+abbrev actAs : Act → Act
+actAs (Store target value mark next) = Store target value (asMark mark) next
+actAs (Go next counter) = Go next (asMark counter)
+actAs (Value v) = Value v
+actAs (Notice named) = Notice (asMark named)
+
+notice-as : (m : Mode) (set : ℕ) (other : Act) → noticeOr m (asMark set) (actAs other) ≡ actAs (noticeOr m set other)
+notice-as m set other =
+    ap (λ (b : Bool). cond b (Notice (namedBy m (asMark set))) (actAs other)) (as-marked set)
+    ∙ ap (λ (x : ℕ). cond (marked set) (Notice x) (actAs other)) (as-mode m 0 set 0)
+    ∙ on (marked set)
+  where
+    on : (b : Bool) → cond b (Notice (asMark (namedBy m set))) (actAs other) ≡ actAs (cond b (Notice (namedBy m set)) other)
+    on true = refl
+    on false = refl
+
+module _ (m : Mode) (vars marks : List ℕ) (counter : ℕ) where
+  act-as : (b : Box) → act m b vars (map asMark marks) (asMark counter) ≡ actAs (act m b vars marks counter)
+  unfolding act
+  act-as (assigns t reads gives next) =
+      let old = entry marks t in
+      let read = union (entries marks reads) in
+      ap (λ (x : ℕ). Store t (gives (entries vars reads)) x next)
+      (ap (λ (x : ℕ). targetMark m x (union (entries (map asMark marks) reads))) (as-entry marks t)
+      ∙ ap (targetMark m (asMark old)) (as-union marks reads)
+      ∙ ap (byMode m (asMark old) (asMark read)) (as-or old read)
+      ∙ as-mode m old read (bitOr old read))
+  act-as (decides reads holds next other) =
+      let read = union (entries marks reads) in
+      let way = cond (holds (entries vars reads)) next other in
+      ap (λ (x : ℕ). noticeOr m (decisionNotice m x) (Go way (counterMark m (asMark counter) x))) (as-union marks reads)
+      ∙ ap (λ (x : ℕ). noticeOr m x (Go way (counterMark m (asMark counter) (asMark read)))) (as-mode m 0 read 0)
+      ∙ ap (λ (x : ℕ). noticeOr m (asMark (decisionNotice m read)) (Go way x))
+      (ap (byMode m (asMark counter) (asMark counter)) (as-or counter read) ∙ as-mode m counter counter (bitOr counter read))
+      ∙ notice-as m (decisionNotice m read) (Go way (counterMark m counter read))
+  act-as halts =
+      let output = entry marks 31 in
+      ap (λ (x : ℕ). noticeOr m (haltNotice m (asMark counter) x) (Value (entry vars 31))) (as-entry marks 31)
+      ∙ ap (λ (x : ℕ). noticeOr m x (Value (entry vars 31))) (ap (byMode m 0 (asMark output)) (as-or counter output) ∙ as-mode m 0 output (bitOr counter output))
+      ∙ notice-as m (haltNotice m counter output) (Value (entry vars 31))
+
+-- What the run comes to.
+set-as : (marks : List ℕ) (t m : ℕ) → set (map asMark marks) t (asMark m) ≡ map asMark (set marks t m)
+set-as [] t m = refl
+set-as (x ∷ marks) zero m = refl
+set-as (x ∷ marks) (suc t) m = ap (λ (l : List ℕ). asMark x ∷ l) (set-as marks t m)
+
+goes-as : (q : Run) → goesOn (asMarks q) ≡ progressAsMarks (goesOn q)
+unfolding goesOn progressAsMarks
+goes-as q = on (leb (q .limit) (q .steps))
+  where
+    on : (b : Bool) → cond b (over spent (q .steps)) (going (asMarks q)) ≡ progressAsMarks (cond b (over spent (q .steps)) (going q))
+    on true = refl
+    on false = refl
+
+settle-as : (a : Act) (q : Run) → settle (actAs a) (asMarks q) ≡ progressAsMarks (settle a q)
+unfolding settle progressAsMarks
+settle-as (Store t v m next) q =
+    ap (λ (l : List ℕ). goesOn (moved (asMarks q) (set (q .vars) (t % 32) v) l (asMark (q .counter)) next)) (set-as (q .marks) (t % 32) m)
+    ∙ goes-as (moved q (set (q .vars) (t % 32) v) (set (q .marks) (t % 32) m) (q .counter) next)
+settle-as (Go next counter) q = goes-as (moved q (q .vars) (q .marks) counter next)
+settle-as (Value v) q = refl
+settle-as (Notice named) q = refl
+
+module _ (table : List ℕ) where
+  onward-as : (p : Progress) → onward table (progressAsMarks p) ≡ progressAsMarks (onward table p)
+  unfolding onward progressAsMarks
+  onward-as (going q) =
+      let m = modeOf (q .mode) in
+      let b = meaning (boxAt table (q .at)) in
+      ap (λ (a : Act). settle a (asMarks q)) (act-as m (q .vars) (q .marks) (q .counter) b) ∙ settle-as (act m b (q .vars) (q .marks) (q .counter)) q
+  onward-as (over e steps) = refl
+
+  run-as : (m : ℕ) (p : Progress) → run table m (progressAsMarks p) ≡ progressAsMarks (run table m p)
+  unfolding run
+  run-as zero p = refl
+  run-as (suc m) p = ap (run table m) (onward-as p) ∙ run-as m (onward table p)
+
+pub sets-only-name : SetsOnlyName
+unfolding progressAsMarks
+sets-only-name table m q = run-as table m (going q)

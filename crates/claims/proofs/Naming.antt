@@ -1,0 +1,163 @@
+-- The sets that are told. What a list tells with an ending is what its run is over with, so what a run carries holds of the set that is named: it is of
+-- withheld inputs. And a box that ends a run names by the mode: under surveillance the marks for which it ends, and else none. Assumes nothing.
+use Prim.Native.Nat.{ℕ, zero, suc, _^_, _<_}
+use mathlib.Core.Path.{_≡_, refl, ap, sym, _∙_, subst}
+use mathlib.Core.List.{List, List·Memᴰ}
+use mathlib.Core.Bool.{Bool, true, false, cond, _||_, false≢true}
+use native.Mathlib.Omega.{arith}
+use lib.Bits.{bitOr}
+use borrow.Author.Tests.{eqb-true, ne-eqb}
+use Rattle.format.specs.declared.Header.{Header}
+use Rattle.decode.specs.Decode.{boxAt, Box, assigns, decides, halts, meaning}
+use Rattle.marks.specs.Marks.{modeOf, marked, union, decisionNotice, counterMark, haltNotice, namedBy}
+use Rattle.machine.specs.Act.{entry, entries, act}
+use Rattle.machine.specs.Run.{Run, Ending, valued, notice, spent, Progress, going, over, settle, step, run}
+use Rattle.machine.specs.declared.Act.the-variants.{Go, Value}
+use Rattle.machine.proofs.Runs.{run-keeps, goes-by, notice-by}
+use Rattle.begin.specs.Begin.{effective, has, allows}
+use Rattle.begin.proofs.Begins.{marks-all, zeros-at}
+use Rattle.calls.specs.Calls.{Call, begin}
+use Rattle.runner.specs.declared.Runner.{Runner}
+use Rattle.runner.specs.State.{chartIn, runIn, namedIn, endedWith, ran, resumed}
+use Rattle.runner.specs.Whole.{startOf}
+use Rattle.runner.specs.Outcomes.{Reply, done, chart, running, ended, ending, wrote, refused, Told}
+use Rattle.claims.specs.Lists.{Accepted, begun, tells, AllContinue, asked}
+use Rattle.claims.specs.Charts.{AllSets}
+use Rattle.claims.specs.Sets.{WithheldOnly, MarksWithheld, namedTold, NamesWithheld, SurveillanceNames, OthersNameNone}
+use Rattle.claims.proofs.Branches.{clash}
+use Rattle.claims.proofs.Inputs.{none-has, or-has, alone-has}
+use Rattle.claims.proofs.Continuing.{from-start, final-from}
+use Rattle.claims.proofs.Answering.{list-tells}
+use Rattle.claims.proofs.Sets.{Carries, run-carries}
+use Rattle.claims.proofs.Secrecy.{begin-starts, started}
+
+-- A run carries withheld inputs only, from its start on.
+module _ (allowed k : ℕ) where
+  none-withheld : WithheldOnly allowed k 0
+  none-withheld j e = absurd (false≢true (sym (none-has j) ∙ e))
+
+  join-withheld : (a b : ℕ) → WithheldOnly allowed k a → WithheldOnly allowed k b → WithheldOnly allowed k (bitOr a b)
+  join-withheld a b x y j e = on (has a j) refl (sym (or-has a b j) ∙ e)
+    where
+      on : (h : Bool) → has a j ≡ h → (h || has b j) ≡ true → (j < k) × (allows allowed j ≡ false)
+      on true h e = x j h
+      on false h e = y j e
+
+  own-withheld : (i : ℕ) → i < k → allows allowed i ≡ false → WithheldOnly allowed k (2 ^ i)
+  own-withheld i l w j e =
+      subst (λ (x : ℕ). (x < k) × (allows allowed x ≡ false)) (eqb-true i j (sym (alone-has i j) ∙ e)) (l, w)
+
+run-withheld : (table : List ℕ) (n mode : ℕ) (inputs : List ℕ) (allowed limit : ℕ) (h : Header)
+    → Carries (WithheldOnly allowed (h .inputs)) (run table n (going (startOf mode inputs allowed limit h)))
+run-withheld table n mode inputs allowed limit h =
+    let k = h .inputs in
+    let none = none-withheld allowed k in
+    run-carries (WithheldOnly allowed k) none (join-withheld allowed k) table n (startOf mode inputs allowed limit h)
+    (record { marks = marks-all (WithheldOnly allowed k) allowed k none (own-withheld allowed k); counter = none })
+
+-- And so does the runner that has come to it.
+resumed-carries : (P : ℕ → Type 0) → P 0 → (p : Progress) (r : Runner) → Carries P p → AllSets P (runIn (resumed p r))
+unfolding resumed endedWith
+resumed-carries P none (going q) r h = h
+resumed-carries P none (over e steps) r h = record { marks = λ v. subst P (sym (zeros-at 32 v)) none; counter = none }
+
+-- How an ending names by the mode.
+record NamesBy (mode : ℕ) (e : Ending) : Type 0 where
+  some : mode ≡ 1 → (named : ℕ) → e ≡ notice named → marked named ≡ true
+  none : (mode ≡ 1 → ⊥) → namedIn e ≡ 0
+
+spent-names : (mode : ℕ) → NamesBy mode spent
+spent-names mode = record { some = λ o named e. clash cc; none = λ o. refl }
+
+value-names : (mode v : ℕ) → NamesBy mode (valued v)
+value-names mode v = record { some = λ o named e. clash cc; none = λ o. refl }
+
+notice-names : (mode set : ℕ) → marked set ≡ true → NamesBy mode (notice (namedBy (modeOf mode) set))
+unfolding modeOf
+notice-names mode set e = record { some = λ o named q. ap marked (same named (rw o at q)) ∙ e; none = other mode }
+  where
+    same : (named : ℕ) → notice set ≡ notice named → named ≡ set
+    same named q = cc
+
+    other : (m : ℕ) → (m ≡ 1 → ⊥) → namedBy (modeOf m) set ≡ 0
+    other zero n = refl
+    other (suc m) n = rw (ne-eqb (suc m) 0 (λ z. omega arith), ne-eqb (suc m) 1 n)
+
+-- A run of that mode, or an ending that names so.
+abbrev Names : ℕ → Progress → Type 0
+Names mode (going q) = q .mode ≡ mode
+Names mode (over e steps) = NamesBy mode e
+
+settle-names : (q : Run) (b : Box) → Names (q .mode) (settle (act (modeOf (q .mode)) b (q .vars) (q .marks) (q .counter)) q)
+unfolding settle act
+settle-names q (assigns t reads gives next) = goes-by (Names (q .mode)) _ (spent-names (q .mode)) (λ l. refl)
+settle-names q (decides reads holds next other) =
+    let m = modeOf (q .mode) in
+    let read = union (entries (q .marks) reads) in
+    notice-by (Names (q .mode)) m (decisionNotice m read) (Go (cond (holds (entries (q .vars) reads)) next other) (counterMark m (q .counter) read)) q
+    (notice-names (q .mode) (decisionNotice m read))
+    (λ e. goes-by (Names (q .mode)) _ (spent-names (q .mode)) (λ l. refl))
+settle-names q halts =
+    let m = modeOf (q .mode) in
+    let marks = haltNotice m (q .counter) (entry (q .marks) 31) in
+    notice-by (Names (q .mode)) m marks (Value (entry (q .vars) 31)) q (notice-names (q .mode) marks) (λ e. value-names (q .mode) (entry (q .vars) 31))
+
+run-names : (table : List ℕ) (mode m : ℕ) (q : Run) → q .mode ≡ mode → Names mode (run table m (going q))
+run-names table mode m q e =
+    run-keeps table (Names mode)
+    (λ x h. subst (λ (k : ℕ). Names k (step table x)) h (settle-names x (meaning (boxAt table (x .at))))) m (going q) e
+
+-- A property of the set told, which no set has to have, and the set of an ending has.
+told-named : (P : ℕ → Type 0) → P 0 → (x : Reply) → ((e : Ending) (steps : ℕ) → x ≡ ending e steps → P (namedIn e)) → P (namedTold x)
+told-named P none done f = none
+told-named P none (chart inputs boxes) f = none
+told-named P none (running steps) f = none
+told-named P none (ended steps) f = none
+told-named P none (ending e steps) f = f e steps refl
+told-named P none (wrote bytes) f = none
+told-named P none (refused number detail) f = none
+
+-- From an accepted begin on, while calls continue the run.
+module _ (r : Runner) (mode : ℕ) (inputs : List ℕ) (allowed limit : ℕ) (a : Accepted (begin mode inputs allowed limit) r) (cs : List Call)
+    (q : AllContinue cs (begun mode inputs allowed limit r)) where
+  abbrev start : Runner
+  start = started mode inputs allowed (effective limit) (chartIn r)
+
+  begins : begun mode inputs allowed limit r ≡ start
+  begins = begin-starts mode inputs allowed limit r a
+
+  -- What a call tells with an ending, the run is over with.
+  told-over : (t : Told) → List·Memᴰ t (tells cs (begun mode inputs allowed limit r)) → (e : Ending) (steps : ℕ) → t .reply ≡ ending e steps
+      → (boxes : ℕ) × (run (r .table) boxes (going (runIn start)) ≡ over e steps)
+  told-over t m e steps h =
+      let from = from-start start refl begins in
+      list-tells start refl e steps cs (going (runIn start)) (subst (AllContinue cs) from q) t (subst (λ (x : Runner). List·Memᴰ t (tells cs x)) from m) h
+
+  told-names : (t : Told) → List·Memᴰ t (tells cs (begun mode inputs allowed limit r)) → (e : Ending) (steps : ℕ) → t .reply ≡ ending e steps → NamesBy mode e
+  told-names t m e steps h =
+      let o = told-over t m e steps h in
+      subst (Names mode) (o .1) (run-names (r .table) mode (o .0) (runIn start) refl)
+
+pub marks-withheld : MarksWithheld
+marks-withheld r mode inputs allowed limit a cs q =
+    let s = start r mode inputs allowed limit a cs q in
+    let P = WithheldOnly allowed (r .header .inputs) in
+    subst (λ (x : Runner). AllSets P (runIn x)) (sym (final-from s refl (begins r mode inputs allowed limit a cs q) cs q))
+    (resumed-carries P (none-withheld allowed (r .header .inputs)) (ran (asked cs) s) s
+    (run-withheld (r .table) (asked cs) mode inputs allowed (effective limit) (r .header)))
+
+pub names-withheld : NamesWithheld
+names-withheld r mode inputs allowed limit a cs q t m =
+    let P = WithheldOnly allowed (r .header .inputs) in
+    told-named P (none-withheld allowed (r .header .inputs)) (t .reply)
+    (λ e steps h.
+    let o = told-over r mode inputs allowed limit a cs q t m e steps h in
+    subst (Carries P) (o .1) (run-withheld (r .table) (o .0) mode inputs allowed (effective limit) (r .header)))
+
+pub surveillance-names : SurveillanceNames
+surveillance-names r mode inputs allowed limit a cs q t m one named steps h =
+    told-names r mode inputs allowed limit a cs q t m (notice named) steps h .some one named refl
+
+pub others-name-none : OthersNameNone
+others-name-none r mode inputs allowed limit a cs q t m other =
+    told-named (λ set. set ≡ 0) refl (t .reply) (λ e steps h. told-names r mode inputs allowed limit a cs q t m e steps h .none other)

@@ -1,0 +1,143 @@
+-- Claims about the marks as sets of withheld inputs (02, a), and about the sets that notices name.
+use Prim.Native.Nat.{ℕ, _≤_, _<_}
+use mathlib.Core.Path.{_≡_}
+use mathlib.Core.List.{List, [], _∷_, map, List·Memᴰ}
+use mathlib.Core.Bool.{Bool, true, false, cond, not, _&&_, _||_}
+use lib.Dec.{eqb, ltb}
+use lib.ListN.{getD}
+use Rattle.marks.specs.Marks.{marked, union, targetMark, decisionNotice, counterMark, haltNotice}
+use Rattle.marks.specs.declared.Mode.{Mode}
+use Rattle.marks.specs.declared.Mode.the-variants.{Bare, Surveillance, HighWater}
+use Rattle.machine.specs.Run.{Run, Ending, valued, notice, spent, Progress, going, over, run}
+use Rattle.begin.specs.Begin.{has, allows, firstMarks}
+use Rattle.runner.specs.State.{namedIn, runIn}
+use Rattle.runner.specs.Outcomes.{Reply, done, chart, running, ended, ending, wrote, refused, Told}
+use Rattle.claims.specs.Lists.{begun, tells, final, Continued}
+use Rattle.claims.specs.Charts.{AllSets}
+
+-- 01's rules on marked and unmarked variables. "any variable it reads is marked":
+unfoldable pub anyMarked : List Bool → Bool
+anyMarked [] = false
+anyMarked (m ∷ marks) = m || anyMarked marks
+
+-- "Surveillance: an assignment marks its target if any variable it reads is marked, and otherwise unmarks it." "High-water: an assignment marks its
+-- target if the target or any variable read is marked." Bare has no rule, and the mark stays.
+abbrev pub targetMarked : Mode → (target : Bool) (read : List Bool) → Bool
+targetMarked Bare target read = target
+targetMarked Surveillance target read = anyMarked read
+targetMarked HighWater target read = target || anyMarked read
+
+-- Surveillance: "A decision that reads a marked variable ends with a notice". High-water "goes on".
+abbrev pub decisionStops : Mode → (read : List Bool) → Bool
+decisionStops Bare read = false
+decisionStops Surveillance read = anyMarked read
+decisionStops HighWater read = false
+
+-- High-water: "A decision sets the counter mark if it reads a marked variable".
+abbrev pub counterMarked : Mode → (counter : Bool) (read : List Bool) → Bool
+counterMarked Bare counter read = counter
+counterMarked Surveillance counter read = counter
+counterMarked HighWater counter read = counter || anyMarked read
+
+-- Surveillance: "Halt gives a notice if 31 is marked". High-water: "Halt gives a notice if 31 or the counter is marked".
+abbrev pub haltStops : Mode → (counter output : Bool) → Bool
+haltStops Bare counter output = false
+haltStops Surveillance counter output = output
+haltStops HighWater counter output = output || counter
+
+-- The rules of the sets, seen through a question that is asked of each set, are 01's rules on marked and unmarked.
+pub record SeenAsMarks (sees : ℕ → Bool) : Type 0 where
+  pub assigns : (mode : Mode) (target : ℕ) (read : List ℕ) → sees (targetMark mode target (union read)) ≡ targetMarked mode (sees target) (map sees read)
+  pub decides : (mode : Mode) (read : List ℕ) → sees (decisionNotice mode (union read)) ≡ decisionStops mode (map sees read)
+  pub counts : (mode : Mode) (counter : ℕ) (read : List ℕ) → sees (counterMark mode counter (union read)) ≡ counterMarked mode (sees counter) (map sees read)
+  pub halts : (mode : Mode) (counter output : ℕ) → sees (haltNotice mode counter output) ≡ haltStops mode (sees counter) (sees output)
+
+-- "empty exactly where 01 has no mark": whether a set is empty. At a begin "each withheld input is marked and nothing else is".
+abbrev pub EmptyWhereUnmarked : Type 0
+EmptyWhereUnmarked =
+    ((allowed k v : ℕ) → k ≤ 16 → marked (getD (firstMarks allowed k) v 0) ≡ (ltb v k && not (allows allowed v))) × SeenAsMarks marked
+
+-- "the new set is the union of those sets; the counter also keeps what it had": whether input j is in a set. At a begin "A withheld input begins with itself
+-- alone".
+abbrev pub SetsAreUnions : Type 0
+SetsAreUnions =
+    (j : ℕ)
+    → ((allowed k v : ℕ) → k ≤ 16 → has (getD (firstMarks allowed k) v 0) j ≡ ((ltb v k && not (allows allowed v)) && eqb v j))
+    × SeenAsMarks (λ set. has set j)
+
+-- A set seen as a mark, 1 or 0, and so all those of a run and of what it comes to.
+abbrev pub asMark : ℕ → ℕ
+asMark set = cond (marked set) 1 0
+
+abbrev pub asMarks : Run → Run
+asMarks q =
+    record {
+      vars = q .vars;
+      marks = map asMark (q .marks);
+      counter = asMark (q .counter);
+      mode = q .mode;
+      at = q .at;
+      limit = q .limit;
+      steps = q .steps;
+    }
+
+abbrev pub endingAsMarks : Ending → Ending
+endingAsMarks (valued v) = valued v
+endingAsMarks (notice named) = notice (asMark named)
+endingAsMarks spent = spent
+
+unfoldable pub progressAsMarks : Progress → Progress
+progressAsMarks (going q) = going (asMarks q)
+progressAsMarks (over e steps) = over (endingAsMarks e) steps
+
+-- So the sets name inputs and do nothing else: a run whose sets are seen as marks goes through the same boxes with the same values to the same kind of
+-- ending in the same steps. By `EmptyWhereUnmarked` its rules are 01's.
+abbrev pub SetsOnlyName : Type 0
+SetsOnlyName = (table : List ℕ) (m : ℕ) (q : Run) → run table m (going (asMarks q)) ≡ progressAsMarks (run table m (going q))
+
+-- "a set of withheld inputs": each input in it is below k and not allowed.
+abbrev pub WithheldOnly : (allowed k set : ℕ) → Type 0
+WithheldOnly allowed k set = (j : ℕ) → has set j ≡ true → (j < k) × (allows allowed j ≡ false)
+
+-- "Each mark becomes a set of withheld inputs": from an accepted begin on, while calls only continue its run.
+abbrev pub MarksWithheld : Type 0
+MarksWithheld =
+    Continued
+    (λ r mode inputs allowed limit cs. AllSets (WithheldOnly allowed (r .header .inputs)) (runIn (final cs (begun mode inputs allowed limit r))))
+
+-- What holds of every reply after an accepted begin, while calls only continue its run: by the begin's mode and allowed set and the chart's number of
+-- inputs.
+abbrev pub AllTold : ((mode allowed k : ℕ) → Reply → Type 0) → Type 0
+AllTold P =
+    Continued
+    (λ r mode inputs allowed limit cs. (t : Told)
+    → List·Memᴰ t (tells cs (begun mode inputs allowed limit r))
+    → P mode allowed (r .header .inputs) (t .reply))
+
+-- The set that a reply names, which is told with an ending alone.
+abbrev pub namedTold : Reply → ℕ
+namedTold done = 0
+namedTold (chart inputs boxes) = 0
+namedTold (running steps) = 0
+namedTold (ended steps) = 0
+namedTold (ending e steps) = namedIn e
+namedTold (wrote bytes) = 0
+namedTold (refused number detail) = 0
+
+-- Every set told is of inputs that the begin withheld.
+abbrev pub NamesWithheld : Type 0
+NamesWithheld = AllTold (λ mode allowed k reply. WithheldOnly allowed k (namedTold reply))
+
+-- A notice in a mode names an input; so it is under surveillance.
+abbrev pub NoticesName : (guarded : ℕ) → Type 0
+NoticesName guarded = AllTold (λ mode allowed k reply. mode ≡ guarded → (named steps : ℕ) → reply ≡ ending (notice named) steps → marked named ≡ true)
+
+abbrev pub SurveillanceNames : Type 0
+SurveillanceNames = NoticesName 1
+
+-- Nothing is named in modes that meet a condition. "All other endings, and high-water notices, carry 0": no mode but surveillance names an input.
+abbrev pub NamesNoneWhere : (ℕ → Type 0) → Type 0
+NamesNoneWhere Holds = AllTold (λ mode allowed k reply. Holds mode → namedTold reply ≡ 0)
+
+abbrev pub OthersNameNone : Type 0
+OthersNameNone = NamesNoneWhere (λ mode. mode ≡ 1 → ⊥)
