@@ -127,6 +127,12 @@ local function run(chart, mode, limit)
   end
 end
 
+-- An ending as it is told: in high-water mode a notice and a spent run end alike, as a notice of no steps that names no inputs.
+local function close(mode, kind, value, steps)
+  if mode == 2 and kind ~= "value" then return "notice", 0, 0 end
+  return kind, value, steps
+end
+
 -- The numbers of a line, or nothing where it is ill-formed.
 local numbers = {}
 local function parse(line)
@@ -159,7 +165,7 @@ local function respond(chart, line, number)
     vars[j] = numbers[4 + j]
     marks[j] = band(bnot(allowed), lshift(1, j))
   end
-  local kind, value, steps = run(chart, mode, limit == 0 and 4096 or limit)
+  local kind, value, steps = close(mode, run(chart, mode, limit == 0 and 4096 or limit))
   if kind == "value" then return string.format("value %.0f steps %d\n", value, steps) end
   if kind == "notice" then return "notice steps " .. steps .. " inputs " .. value .. "\n" end
   return "spent steps " .. steps .. "\n"

@@ -1,5 +1,8 @@
 //! Charts by the scope document, in plain Rust: the runner behind `&mut self`, the boxes read out of the same byte table.
 
+/// The greatest limit; an advance by so many boxes ends a run in every mode.
+pub const GREATEST_LIMIT: u32 = 65535;
+
 /// What a call tells: a refusal is its number and detail; a notice names a set of withheld inputs, of which bit j is input j.
 #[derive(Clone, Copy, PartialEq, Eq, Debug)]
 pub enum Told {
@@ -22,6 +25,9 @@ pub enum State {
     Notice,
     Spent,
 }
+
+/// An ending: its state, its value and the set that it names, 0 where there is none.
+type Ending = (State, u32, u16);
 
 /// A mark is a set of withheld inputs, 0 where there is none; `named` is the set of the notice told, 0 without one.
 pub struct Runner {
@@ -112,6 +118,15 @@ pub fn check(file: &[u8]) -> Result<(u8, u8, u8), (u32, u32)> {
     Ok((k, n, first))
 }
 
+/// The steps that a limit means.
+pub fn effective(limit: u32) -> u32 {
+    if limit == 0 {
+        4096
+    } else {
+        limit
+    }
+}
+
 /// The ten bytes of a box as a part of its file.
 pub fn show_box(file: &[u8], number: u32) -> &[u8] {
     match check(file) {
@@ -184,7 +199,7 @@ impl Runner {
         if allowed >> self.inputs != 0 {
             return refused(8);
         }
-        if limit > 65535 {
+        if limit > GREATEST_LIMIT {
             return refused(10);
         }
         self.vars = [0; 32];
@@ -197,7 +212,7 @@ impl Runner {
         self.counter = 0;
         self.mode = mode as u8;
         self.at = self.first;
-        self.limit = if limit == 0 { 4096 } else { limit };
+        self.limit = effective(limit);
         self.steps = 0;
         self.value = 0;
         self.named = 0;
@@ -236,8 +251,8 @@ impl Runner {
         self.at = b[5];
     }
 
-    /// Runs the box at hand; an ending with its value and the set it names, if it is one.
-    fn step(&mut self) -> Option<(State, u32, u16)> {
+    /// Runs the box at hand; the ending, if it is one.
+    fn step(&mut self) -> Option<Ending> {
         let p = 10 * usize::from(self.at);
         let b: [u8; 10] = match self.table.get(p..p + 10) {
             Some(b) => b.try_into().unwrap(),
@@ -274,20 +289,35 @@ impl Runner {
         None
     }
 
+    /// Ends the run and tells so. In high-water mode a notice and a spent run end alike, as a notice of no steps, and the steps of a value are left to the
+    /// answer.
+    fn close(&mut self, (state, value, named): Ending) -> Told {
+        self.rest(state, value, named);
+        if self.mode != 2 {
+            return Told::Ended(self.steps);
+        }
+        if state != State::Value {
+            self.state = State::Notice;
+            self.steps = 0;
+        }
+        Told::Ended(0)
+    }
+
     pub fn advance(&mut self, m: u32) -> Told {
         if self.state != State::Running {
             return Told::Refused(23, 0);
         }
+        if self.mode == 2 && m < self.limit {
+            return Told::Refused(13, 0);
+        }
         for _ in 0..m {
             let ending = self.step();
             self.steps += 1;
-            if let Some((state, value, named)) = ending {
-                self.rest(state, value, named);
-                return Told::Ended(self.steps);
+            if let Some(ending) = ending {
+                return self.close(ending);
             }
             if self.steps >= self.limit {
-                self.rest(State::Spent, 0, 0);
-                return Told::Ended(self.steps);
+                return self.close((State::Spent, 0, 0));
             }
         }
         Told::Running(self.steps)

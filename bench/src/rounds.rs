@@ -3,7 +3,7 @@
 use crate::by_value;
 use crate::kinds::numbers;
 use crate::plain;
-use crate::plain::Told;
+use crate::plain::{Told, GREATEST_LIMIT};
 
 pub fn fold(sum: u64, word: u32) -> u64 {
     (sum ^ sum >> 7).wrapping_add(word.into())
@@ -24,7 +24,7 @@ pub fn checks(file: &[u8], mode: u32, inputs: &[u32], allowed: u32, limit: u32, 
     for _ in 0..rounds {
         own[0] = own[0].wrapping_add(1);
         runner.begin(mode, &own[..k], allowed, limit);
-        runner.advance(65535);
+        runner.advance(GREATEST_LIMIT);
         sum = fold_told(sum, runner.answer());
     }
     sum
@@ -39,7 +39,7 @@ pub fn checks_by_value(file: &[u8], mode: u32, inputs: &[u32], allowed: u32, lim
     let mut sum = 0;
     for _ in 0..rounds {
         own[0] = own[0].wrapping_add(1);
-        let turn = runner.begin(mode, &own[..k], allowed, limit).runner.advance(65535).runner.answer();
+        let turn = runner.begin(mode, &own[..k], allowed, limit).runner.advance(GREATEST_LIMIT).runner.answer();
         sum = fold_told(sum, turn.told);
         runner = turn.runner;
     }

@@ -2,7 +2,7 @@
 //!
 //! `differential SECONDS [SEED]`
 use bench::kinds::{numbers, shown};
-use bench::plain::{show_box, Runner};
+use bench::plain::{effective, show_box, Runner};
 use bench::random::Random;
 use bench::{charts, exported, kinds};
 use std::time::{Duration, Instant};
@@ -42,19 +42,24 @@ fn begin(random: &mut Random, k: u32) -> [u32; STRIDE] {
     words
 }
 
-fn amount(random: &mut Random) -> u32 {
-    match random.below(8) {
+/// An amount to advance by: of any size, and often the limit of the last begin or near it, from which on a high-water run accepts amounts.
+fn amount(random: &mut Random, limit: u32) -> u32 {
+    match random.below(12) {
         0 => 0,
         1 => u32::MAX - random.below(2),
         2..=4 => random.below(4),
         5 => 65535,
-        _ => random.below(200),
+        6..=7 => random.below(200),
+        8..=9 => limit,
+        10 => limit - 1,
+        _ => limit.saturating_add(1 + random.below(100)),
     }
 }
 
 fn script(random: &mut Random) -> Script {
     let mut files = Vec::new();
     let mut words = Vec::new();
+    let mut limit = effective(0);
     for _ in 0..1 + random.below(4) {
         let mut file = charts::random_chart(random);
         let k = u32::from(file[5]);
@@ -66,8 +71,12 @@ fn script(random: &mut Random) -> Script {
         words.push(call(&[0, from, length]));
         for _ in 0..random.below(40) {
             words.push(match random.below(12) {
-                0..=2 => begin(random, k),
-                3..=6 => call(&[2, amount(random)]),
+                0..=2 => {
+                    let begin = begin(random, k);
+                    limit = effective(begin[3]);
+                    begin
+                }
+                3..=6 => call(&[2, amount(random, limit)]),
                 7..=8 => call(&[3]),
                 9 => call(&[4]),
                 10 => call(&[5, random.below(2600)]),
@@ -111,6 +120,7 @@ fn main() {
     let mut random = Random::new(seed);
     let (mut scripts, mut calls) = (0u64, 0u64);
     let mut counts = [0u64; kinds::NAMES.len()];
+    let mut refusals = [0u64; 25];
     while Instant::now() < end {
         let script = script(&mut random);
         let flat: Vec<u32> = script.words.iter().flatten().copied().collect();
@@ -123,6 +133,9 @@ fn main() {
         for (i, (words, told)) in script.words.iter().zip(told.chunks(4)).enumerate() {
             let expected = plain(&mut runner, &script.files, words, &mut theirs);
             counts[expected[0] as usize] += 1;
+            if kinds::NAMES[expected[0] as usize] == "refused" {
+                refusals[expected[1] as usize] += 1;
+            }
             if told != expected {
                 println!("seed {seed}, list {scripts}, call {i}: {words:?}");
                 println!("the library told {told:?}, plain Rust {expected:?}");
@@ -136,5 +149,8 @@ fn main() {
     println!("{scripts} lists, {calls} calls, no difference");
     for (name, count) in kinds::NAMES.iter().zip(counts) {
         println!("{name} {count}");
+    }
+    for (number, count) in refusals.iter().enumerate().filter(|(_, count)| **count > 0) {
+        println!("refused by {number}: {count}");
     }
 }

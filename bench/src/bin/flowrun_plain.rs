@@ -1,6 +1,6 @@
 //! The run program in plain Rust, with buffered standard input and output.
 use bench::lines::{parse, print};
-use bench::plain::{Runner, Told};
+use bench::plain::{Runner, Told, GREATEST_LIMIT};
 use std::io::{self, BufRead, BufReader, BufWriter, Read, Write};
 
 fn main() -> io::Result<()> {
@@ -29,7 +29,7 @@ fn main() -> io::Result<()> {
             Some(ns) => {
                 let mut told = runner.begin(ns[0], &ns[3..], ns[1], ns[2]);
                 if told == Told::Done {
-                    runner.advance(65535);
+                    runner.advance(GREATEST_LIMIT);
                     told = runner.answer();
                 }
                 print(&mut out, told)?;

@@ -1,4 +1,4 @@
--- What an accepted begin and an accepted write back say of their arguments: each of their rules has been kept. Assumes nothing.
+-- What an accepted begin, advance and write back say of their arguments: each of their rules has been kept. Assumes nothing.
 use Prim.Native.Nat.{ℕ, _/_, _^_, _≤_}
 use mathlib.Core.Path.{_≡_, refl}
 use mathlib.Core.List.{List}
@@ -11,7 +11,7 @@ use Rattle.format.specs.File.{inRange}
 use Rattle.format.specs.declared.Header.{Header}
 use Rattle.format.specs.declared.Refusal.{Refusal}
 use Rattle.chart.specs.WriteBack.{fileLength, hasRoom}
-use Rattle.calls.specs.Calls.{begin, writeBack, Standing, refuseIf, check}
+use Rattle.calls.specs.Calls.{begin, advance, writeBack, Standing, refuseIf, check}
 use Rattle.calls.specs.declared.Verdict.{Verdict}
 use Rattle.calls.specs.declared.Verdict.the-variants.{Done, Refused}
 
@@ -48,6 +48,14 @@ module _ (mode : ℕ) (inputs : List ℕ) (allowed limit : ℕ) (s : Standing) (
         below = eqb-true _ _ (not-false _ (five .0));
         fits = ltb-false 65535 limit (six .0);
       }
+
+-- An accepted advance is of a run under way, by the least amount or more.
+pub advance-enough : (m : ℕ) (s : Standing) → check (advance m) s ≡ Done → (s .running ≡ true) × (s .least ≤ m)
+unfolding check
+advance-enough m s e =
+    let one = passed (not (s .running)) 23 e in
+    let two = passed (ltb m (s .least)) 13 (one .1) in
+    (not-false _ (one .0), ltb-false m (s .least) (two .0))
 
 -- An accepted write back has a chart and room for its file.
 pub write-back-fits : (buffer : List ℕ) (s : Standing) → check (writeBack buffer) s ≡ Done

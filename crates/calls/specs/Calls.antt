@@ -21,14 +21,13 @@ pub data Call : Type 0 where
   abandon : Call
   writeBack : (buffer : List ℕ) → Call
 
--- What the refusals look at of a runner: the header of the chart held, whether a run is under way, and whether there is an ended one.
+-- What the refusals look at of a runner: the header of the chart held, whether a run is under way, the least amount by which it may be advanced, and
+-- whether there is an ended run.
 pub record Standing : Type 0 where
   pub header : Header
   pub running : Bool
+  pub least : ℕ
   pub ended : Bool
-
-abbrev pub standing : Header → (running ended : Bool) → Standing
-standing header running ended = record { header = header; running = running; ended = ended }
 
 -- A refusal whose detail is 0, and a rule that refuses where it is broken.
 abbrev pub refuse : ℕ → Verdict
@@ -45,7 +44,8 @@ fileVerdict (checked.Refused x) = Refused x
 -- "State comes before input. Load: 22, then 1 to 6 in order. Begin: 21, 22, 7, 9, 8, 10. Write back: 21, 12."
 -- "7: mode above 2"; "8: the allowed set has a bit at k or above"; "9: the inputs lent aren't k in number"; "10: limit above 65,535"; "12: the buffer
 -- for writing back is shorter than the file". "21: no chart held (begin, write back)"; "22: a run is under way (load, begin)"; "23: no run is under
--- way (advance, abandon)"; "24: no ended run (answer)". Write back is "Allowed during a run".
+-- way (advance, abandon)"; "24: no ended run (answer)". Write back is "Allowed during a run". 02, b: "It refuses, with 13 and after 23, an advance by less
+-- than the run's limit in high-water mode."
 unfoldable pub check : Call → Standing → Verdict
 check (load file) s = refuseIf (s .running) 22 (fileVerdict (checkFile file))
 check (begin mode inputs allowed limit) s =
@@ -56,7 +56,7 @@ check (begin mode inputs allowed limit) s =
     (refuseIf (not (eqb (allowed / 2 ^ s .header .inputs) 0)) 8
     (refuseIf (ltb 65535 limit) 10
     Done)))))
-check (advance m) s = refuseIf (not (s .running)) 23 Done
+check (advance m) s = refuseIf (not (s .running)) 23 (refuseIf (ltb m (s .least)) 13 Done)
 check answer s = refuseIf (not (s .ended)) 24 Done
 check abandon s = refuseIf (not (s .running)) 23 Done
 check (writeBack buffer) s = refuseIf (not (inRange (s .header))) 21 (refuseIf (not (hasRoom (s .header) (length buffer))) 12 Done)

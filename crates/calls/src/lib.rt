@@ -1,13 +1,12 @@
-// What refuses a begin and a write back, in order. The refusals of the other calls are one test each, and load's file has its own checks.
+// What refuses a begin, an advance and a write back, in order. The refusals of the other calls are one test each, and load's file has its own checks.
 use format::Header;
 use format::Refusal;
 ghost use mathlib.Core.Path.{_≡_};
 ghost use mathlib.Core.List.{List};
-ghost use mathlib.Core.Bool.{Bool};
 ghost use Prim.Native.Nat.{ℕ};
 ghost use lib.ListN.{length};
 ghost use Rattle.format.specs.File.{refusal};
-ghost use Rattle.calls.specs.Calls.{begin, writeBack, standing, check};
+ghost use Rattle.calls.specs.Calls.{begin, advance, writeBack, Standing, check};
 
 // Done, or refused.
 pub enum Verdict {
@@ -31,7 +30,7 @@ pub fn check_begin(
     allowed: u32,
     limit: u32,
 ) -> Verdict
-    ensures { λ r. ⌜ ((ended : Bool) → r ≡ check (begin mode (now (inputs .entry)) allowed limit) (standing header running ended)) ⌝ }
+    ensures { λ r. ⌜ ((s : Standing) → s .header ≡ header → s .running ≡ running → r ≡ check (begin mode (now (inputs .entry)) allowed limit) s) ⌝ }
 {
     if !format::in_range(header) {
         return refuse(21);
@@ -55,10 +54,22 @@ pub fn check_begin(
     Verdict::Done
 }
 
+// The verdict on an advance by m, by whether a run is under way and the least amount by which it may be advanced.
+pub fn check_advance(running: bool, least: u32, m: u32) -> Verdict
+    ensures { λ r. ⌜ ((s : Standing) → s .running ≡ running → s .least ≡ least → r ≡ check (advance m) s) ⌝ }
+{
+    if !running {
+        return refuse(23);
+    }
+    if m < least {
+        return refuse(13);
+    }
+    Verdict::Done
+}
+
 // The verdict on a write back into a buffer of so many bytes.
 pub fn check_write_back(header: Header, room: usize) -> Verdict
-    ensures { λ r.
-        ⌜ ((buffer : List ℕ) (running ended : Bool) → length buffer ≡ room → r ≡ check (writeBack buffer) (standing header running ended)) ⌝ }
+    ensures { λ r. ⌜ ((buffer : List ℕ) (s : Standing) → length buffer ≡ room → s .header ≡ header → r ≡ check (writeBack buffer) s) ⌝ }
 {
     if !format::in_range(header) {
         return refuse(21);

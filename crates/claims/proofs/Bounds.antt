@@ -1,5 +1,5 @@
 -- The claims at their exact bounds, each from the theorem of its claim and nothing else. Assumes nothing.
-use Prim.Native.Nat.{ℕ, _+_}
+use Prim.Native.Nat.{ℕ, _+_, _-_}
 use mathlib.Core.Path.{_≡_, refl, ap, sym, _∙_}
 use mathlib.Core.List.{List, [], _∷_, _++_, append-nil}
 use mathlib.Core.Bool.{Bool, true, false, true≢false}
@@ -7,14 +7,17 @@ use native.Mathlib.Omega.{arith}
 use lib.ListN.{length, drop}
 use lib.Seq.{drop-length}
 use Rattle.chart_claims.proofs.Bounds.{header-bounds, box-bounds}
+use Rattle.begin.specs.Begin.{effective}
+use Rattle.begin.proofs.Begins.{effective-positive}
 use Rattle.calls.specs.Calls.{advance}
-use Rattle.runner.specs.Outcomes.{wrote}
+use Rattle.runner.specs.Outcomes.{wrote, Outcome}
 use Rattle.claims.specs.Lists.{final, asked}
 use Rattle.claims.specs.Bounds.{AnswersAtTheLimit, RunsWithinBounds, WrittenIntoExactRoom, HeldWithinBounds, StatesWithinBounds, NamesWithinBounds}
 use Rattle.claims.proofs.Demand3.{demand3}
-use Rattle.claims.proofs.RunLaws.{counts-boxes, limit-ends, within-limit}
+use Rattle.claims.proofs.RunLaws.{begun-runs, counts-boxes, limit-ends, one-advance-ends, within-limit}
 use Rattle.claims.proofs.ChartLaws.{held-obeys, runs-in-range, ends-in-range, loaded-is-written}
 use Rattle.claims.proofs.Naming.{names-withheld}
+use Rattle.claims.proofs.HighWater.{high-water-ends}
 
 pub answers-at-the-limit : AnswersAtTheLimit
 unfolding final asked
@@ -23,13 +26,22 @@ answers-at-the-limit r r′ inputs allowed limit limit′ b v steps w =
     d .1 (d .0 (omega arith))
 
 pub runs-within-bounds : RunsWithinBounds
-unfolding asked
+unfolding final asked
 runs-within-bounds r mode inputs allowed limit a =
     record {
-      ends = limit-ends r mode inputs allowed limit a (advance _ ∷ []) (tt, tt) (omega arith);
       within = λ cs q t m. let w = within-limit r mode inputs allowed limit a cs q t m in omega arith;
-      some = λ m e. let s = counts-boxes r mode inputs allowed limit a m 0 .1 e .0 in omega arith;
-      few = λ m e. let s = counts-boxes r mode inputs allowed limit a m (m + 1) .1 e .1 in omega arith;
+      ends = one-advance-ends r mode inputs allowed limit a (effective limit) (omega arith);
+      less =
+          λ two.
+          let some = effective-positive limit in
+          let on = begun-runs r mode inputs allowed limit a in
+          ap (λ (o : Outcome). o .told .reply) (high-water-ends r mode inputs allowed limit a [] tt two on (effective limit - 1) .less (omega arith));
+      sum =
+          λ n.
+          let some = effective-positive limit in
+          limit-ends r mode inputs allowed limit a (advance (effective limit - 1) ∷ advance 1 ∷ []) (tt, (tt, tt)) n (omega arith);
+      some = λ n m e. let s = counts-boxes r mode inputs allowed limit a n m 0 .1 e .0 in omega arith;
+      few = λ n m e. let s = counts-boxes r mode inputs allowed limit a n m (m + 1) .1 e .1 in omega arith;
     }
 
 pub written-into-exact-room : WrittenIntoExactRoom

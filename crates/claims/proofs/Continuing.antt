@@ -1,38 +1,30 @@
--- Lists of advances, answers, write backs and refused calls only run boxes: as many as the advances ask for, or fewer where the run ends.
--- Assumes nothing.
-use Prim.Native.Nat.{ℕ, _+_}
+-- Lists of advances, answers, write backs and refused calls only run boxes: as many as the advances ask for, or fewer where the run ends or, with counts hidden, an
+-- advance is refused. And what each of their calls replies. Assumes nothing.
+use Prim.Native.Nat.{ℕ, _+_, _≤_, _<_}
 use mathlib.Core.Path.{_≡_, refl, ap, sym, _∙_, subst}
 use mathlib.Core.List.{List, [], _∷_, List·Memᴰ, List·Memᴰ·cases-cons, List·Memᴰ·not-nil}
 use mathlib.Core.Logic.{⊎-elim}
-use mathlib.Core.Bool.{true, false}
+use mathlib.Core.Bool.{true, false, cond, false≢true}
+use native.Mathlib.Omega.{arith}
+use borrow.Author.Tests.{lt-ltb, le-ltb}
 use Rattle.format.specs.File.{refusal}
-use Rattle.machine.specs.Run.{Run, Ending, valued, notice, spent, Progress, going, over, run}
-use Rattle.machine.proofs.Runs.{run-add, over-still}
+use Rattle.marks.specs.Marks.{modeOf, hides}
+use Rattle.marks.specs.declared.Mode.{Mode}
+use Rattle.machine.specs.Run.{Run, Ending, valued, notice, spent, Progress, going, over, run, kept}
+use Rattle.machine.proofs.Runs.{run-add, over-twice, AsBegun, run-as-begun, kept-by}
 use Rattle.calls.specs.Calls.{Call, load, begin, advance, answer, abandon, writeBack, check}
 use Rattle.calls.specs.declared.Verdict.{Verdict}
 use Rattle.calls.specs.declared.Verdict.the-variants.{Done, Refused}
-use Rattle.calls.proofs.Permits.{not-done}
+use Rattle.calls.proofs.Permits.{not-done, advance-enough}
 use Rattle.runner.specs.declared.Runner.{Runner}
-use Rattle.runner.specs.State.{isRunning, isEnded, standingOf, endingIn, runIn, endedWith, ran, resumed}
-use Rattle.runner.specs.Outcomes.{ending, Told, Outcome, Effect, runs, keeps, begins, drops, replaces, effect, after, says, outcomeBy, call}
+use Rattle.runner.specs.State.{isRunning, isEnded, leastIn, standingOf, endingIn, runIn, endedWith, ran, resumed}
+use Rattle.runner.specs.Outcomes.{Reply, done, chart, ending, wrote, refused, Told, Outcome, Effect, runs, keeps, begins, drops, replaces, effect, after, progressReply, says, outcomeBy, call}
 use Rattle.claims.specs.Lists.{Accepted, tells, final, OnlyRuns, Continues, AllContinue, amountOf, asked}
 use Rattle.claims.proofs.Branches.{clash}
-use Rattle.claims.proofs.Accepting.{call-done}
+use Rattle.claims.proofs.Accepting.{call-done, runs-only}
 use Rattle.claims.proofs.Counting.{Over}
 
--- The call that runs boxes.
-runs-only : (c : Call) (m : ℕ) → effect c ≡ runs m → c ≡ advance m
-runs-only (load f) m e = clash cc
-runs-only (begin k i a l) m e = clash cc
-runs-only (advance n) m e = ap advance (amount e)
-  where
-    amount : runs n ≡ runs m → n ≡ m
-    amount q = cc
-runs-only answer m e = clash cc
-runs-only abandon m e = clash cc
-runs-only (writeBack b) m e = clash cc
-
--- Every runner here is r with what its run has come to.
+-- Every runner here is r after so many boxes of its run.
 module _ (r : Runner) (on : r .state ≡ 1) where
   -- It is what its own run has come to.
   self-resumed : resumed (going (runIn r)) r ≡ r
@@ -40,13 +32,13 @@ module _ (r : Runner) (on : r .state ≡ 1) where
   self-resumed = refl
 
   -- An ended run is not under way, and an answer tells it.
-  pub over-rests : (e : Ending) (steps : ℕ) → isRunning (resumed (over e steps) r) ≡ false
+  over-rests : (e : Ending) (steps : ℕ) → isRunning (resumed (over e steps) r) ≡ false
   unfolding resumed endedWith
   over-rests (valued v) steps = refl
   over-rests (notice named) steps = refl
   over-rests spent steps = refl
 
-  pub over-ended : (e : Ending) (steps : ℕ) → isEnded (resumed (over e steps) r) ≡ true
+  over-ended : (e : Ending) (steps : ℕ) → isEnded (resumed (over e steps) r) ≡ true
   unfolding resumed endedWith
   over-ended (valued v) steps = refl
   over-ended (notice named) steps = refl
@@ -66,7 +58,7 @@ module _ (r : Runner) (on : r .state ≡ 1) where
   unfolding check
   over-answers e steps = rw (over-ended e steps)
 
-  pub over-says : (e : Ending) (steps : ℕ) → says answer (resumed (over e steps) r) ≡ ending e steps
+  over-says : (e : Ending) (steps : ℕ) → says answer (resumed (over e steps) r) ≡ ending e steps
   unfolding says
   over-says e steps = rw (over-ending e steps, took-steps e steps)
 
@@ -78,7 +70,7 @@ module _ (r : Runner) (on : r .state ≡ 1) where
   unfolding resumed
   going-runs q = rw on
 
-  pub going-does-not-answer : (q : Run) → Accepted answer (resumed (going q) r) → ⊥
+  going-does-not-answer : (q : Run) → Accepted answer (resumed (going q) r) → ⊥
   unfolding check resumed
   going-does-not-answer q e = not-done (rw on at e)
 
@@ -86,11 +78,7 @@ module _ (r : Runner) (on : r .state ≡ 1) where
   answered-over (going q) a = absurd (going-does-not-answer q a)
   answered-over (over e steps) a = record { ending = e; steps = steps; is = refl }
 
-  pub going-ran : (m : ℕ) (q : Run) → ran m (resumed (going q) r) ≡ run (r .table) m (going q)
-  unfolding resumed
-  going-ran m q = refl
-
-  pub over-does-not-advance : (m : ℕ) (e : Ending) (steps : ℕ) → Accepted (advance m) (resumed (over e steps) r) → ⊥
+  over-does-not-advance : (m : ℕ) (e : Ending) (steps : ℕ) → Accepted (advance m) (resumed (over e steps) r) → ⊥
   unfolding check
   over-does-not-advance m e steps a = not-done {x = refusal 23 0} (rw (over-rests e steps) at a)
 
@@ -99,76 +87,219 @@ module _ (r : Runner) (on : r .state ≡ 1) where
   resumed-twice q (going x) = refl
   resumed-twice q (over e steps) = refl
 
-  -- An advance.
-  advance-next : (m : ℕ) (p : Progress) (v : Verdict) → check (advance m) (standingOf (resumed p r)) ≡ v
-      → outcomeBy v (advance m) (resumed p r) .next ≡ resumed (run (r .table) m p) r
-  unfolding check outcomeBy after
-  advance-next m (going q) Done e =
-      ap (λ (x : Progress). resumed x (resumed (going q) r)) (going-ran m q) ∙ resumed-twice q (run (r .table) m (going q))
-  advance-next m (going q) (Refused x) e = not-done (sym e ∙ rw (going-runs q))
-  advance-next m (over k steps) Done e = absurd (over-does-not-advance m k steps e)
-  advance-next m (over k steps) (Refused x) e = ap (λ (p : Progress). resumed p r) (sym (over-still (r .table) m k steps))
+  -- A run that goes on, and one that is over, after n boxes and then after m more.
+  abbrev mode : Mode
+  mode = modeOf (r .mode)
+
+  abbrev inside : ℕ → Progress
+  inside n = run (r .table) n (going (runIn r))
+
+  pub ran-over : (n : ℕ) → Over (inside n) → Over (ran n r)
+  ran-over n o = kept-by Over mode (inside n) o (λ h. record { ending = notice 0; steps = 0; is = refl })
+
+  going-inside : (n : ℕ) (q : Run) → ran n r ≡ going q → inside n ≡ going q
+  going-inside n q e = kept-by (λ (p : Progress). p ≡ going q → inside n ≡ going q) mode (inside n) (λ d. d) (λ h d. clash cc) e
+
+  as-begun : (n : ℕ) (q : Run) → ran n r ≡ going q → (q .mode ≡ r .mode) × (q .limit ≡ r .limit)
+  as-begun n q e = subst (AsBegun (runIn r)) (going-inside n q e) (run-as-begun (r .table) n (runIn r))
+
+  pub value-inside : (n v steps : ℕ) → ran n r ≡ over (valued v) steps → inside n ≡ over (valued v) steps
+  value-inside n v steps e =
+      kept-by (λ (p : Progress). p ≡ over (valued v) steps → inside n ≡ over (valued v) steps) mode (inside n) (λ d. d) (λ h d. clash cc) e
+
+  going-ran : (m : ℕ) (q : Run) → ran m (resumed (going q) r) ≡ kept (modeOf (q .mode)) (run (r .table) m (going q))
+  unfolding resumed
+  going-ran m q = refl
+
+  ran-further : (m n : ℕ) (q : Run) → ran n r ≡ going q → ran m (resumed (going q) r) ≡ ran (n + m) r
+  ran-further m n q e =
+      going-ran m q
+      ∙ ap (λ (k : ℕ). kept (modeOf k) (run (r .table) m (going q))) (as-begun n q e .0)
+      ∙ ap (λ (p : Progress). kept mode (run (r .table) m p)) (sym (going-inside n q e))
+      ∙ ap (kept mode) (sym (run-add (r .table) n m (going (runIn r))))
+
+  pub ran-still : (m n : ℕ) (e : Ending) (steps : ℕ) → ran n r ≡ over e steps → ran (n + m) r ≡ over e steps
+  unfolding kept
+  ran-still m n e steps d = by (inside n) refl
+    where
+      by : (p : Progress) → inside n ≡ p → ran (n + m) r ≡ over e steps
+      by (going q) h = let z : going q ≡ over e steps = ap (kept mode) (sym h) ∙ d in clash cc
+      by (over k steps′) h = ap (kept mode) (over-twice (r .table) _ k n steps′ m h ∙ sym h) ∙ d
+
+  -- The least amount by which it may be advanced stays.
+  least-stays : (n : ℕ) (q : Run) → ran n r ≡ going q → leastIn (resumed (going q) r) ≡ leastIn r
+  unfolding resumed
+  least-stays n q e = let b = as-begun n q e in ap (λ (k : ℕ). cond (hides (modeOf k)) (q .limit) 0) (b .0) ∙ ap (λ (l : ℕ). cond (hides mode) l 0) (b .1)
+
+  -- An advance that is accepted.
+  abbrev pub advanced : Progress → Outcome
+  advanced p = record { told = record { reply = progressReply mode p; buffer = [] }; next = resumed p r }
+
+  going-mode : (q : Run) → resumed (going q) r .mode ≡ q .mode
+  unfolding resumed
+  going-mode q = refl
+
+  advanced-going : (m n : ℕ) (q : Run) → ran n r ≡ going q → outcomeBy Done (advance m) (resumed (going q) r) ≡ advanced (ran (n + m) r)
+  unfolding outcomeBy says after
+  advanced-going m n q e =
+      ap (λ (k : ℕ). record { told = record { reply = progressReply (modeOf k) (ran m (resumed (going q) r)); buffer = [] }; next = resumed (ran m (resumed (going q) r)) (resumed (going q) r) })
+      (going-mode q ∙ as-begun n q e .0)
+      ∙ ap (λ (p : Progress). record { told = record { reply = progressReply mode p; buffer = [] }; next = resumed p (resumed (going q) r) }) (ran-further m n q e)
+      ∙ ap (λ (x : Runner). record { told = record { reply = progressReply mode (ran (n + m) r); buffer = [] }; next = x }) (resumed-twice q (ran (n + m) r))
+
+  pub advance-does : (m n : ℕ) → Accepted (advance m) (resumed (ran n r) r) → call (advance m) (resumed (ran n r) r) ≡ advanced (ran (n + m) r)
+  advance-does m n a = by (ran n r) refl a
+    where
+      by : (p : Progress) → ran n r ≡ p → Accepted (advance m) (resumed p r) → call (advance m) (resumed p r) ≡ advanced (ran (n + m) r)
+      by (going q) e d = call-done (advance m) (resumed (going q) r) d ∙ advanced-going m n q e
+      by (over k steps) e d = absurd (over-does-not-advance m k steps d)
+
+  -- It is where the run goes on and the amount is enough.
+  pub advance-accepts : (m n : ℕ) → isRunning (resumed (ran n r) r) ≡ true → leastIn r ≤ m → Accepted (advance m) (resumed (ran n r) r)
+  unfolding check
+  advance-accepts m n on enough = by (ran n r) refl on
+    where
+      by : (p : Progress) → ran n r ≡ p → isRunning (resumed p r) ≡ true → Accepted (advance m) (resumed p r)
+      by (going q) e k = let l = least-stays n q e in rw (k, le-ltb m (leastIn (resumed (going q) r)) (omega arith))
+      by (over f s) e k = absurd (false≢true (sym (over-rests f s) ∙ k))
+
+  pub advance-less : (m n : ℕ) → isRunning (resumed (ran n r) r) ≡ true → m < leastIn r
+      → call (advance m) (resumed (ran n r) r) ≡ record { told = record { reply = refused 13 0; buffer = [] }; next = resumed (ran n r) r }
+  unfolding call check outcomeBy
+  advance-less m n on less = by (ran n r) refl on
+    where
+      by : (p : Progress) → ran n r ≡ p → isRunning (resumed p r) ≡ true
+          → call (advance m) (resumed p r) ≡ record { told = record { reply = refused 13 0; buffer = [] }; next = resumed p r }
+      by (going q) e k = let l = least-stays n q e in rw (k, lt-ltb m (leastIn (resumed (going q) r)) (omega arith)) refl
+      by (over f s) e k = absurd (false≢true (sym (over-rests f s) ∙ k))
+
+  pub advance-asked : (m n : ℕ) → Accepted (advance m) (resumed (ran n r) r) → leastIn r ≤ m
+  advance-asked m n a = by (ran n r) refl a
+    where
+      by : (p : Progress) → ran n r ≡ p → Accepted (advance m) (resumed p r) → leastIn r ≤ m
+      by (going q) e d = let l = least-stays n q e in let f = advance-enough m _ d .1 in omega arith
+      by (over f s) e d = absurd (over-does-not-advance m f s d)
+
+  -- So many boxes lead to a runner: as many as were asked for, where no counts are hidden.
+  pub record Ran (wanted : ℕ) (next : Runner) : Type 0 where
+    pub boxes : ℕ
+    pub all : hides mode ≡ false → boxes ≡ wanted
+    pub is : next ≡ resumed (ran boxes r) r
+
+  advance-next : (m n : ℕ) (v : Verdict) → check (advance m) (standingOf (resumed (ran n r) r)) ≡ v
+      → Ran (n + m) (outcomeBy v (advance m) (resumed (ran n r) r) .next)
+  unfolding outcomeBy
+  advance-next m n Done e =
+      record { boxes = n + m; all = λ h. refl; is = ap (λ (o : Outcome). o .next) (sym (call-done (advance m) _ e) ∙ advance-does m n e) }
+  advance-next m n (Refused x) e = by (ran n r) refl
+    where
+      stays : (q : Run) → ran n r ≡ going q → hides mode ≡ false → n ≡ n + m
+      stays q d h =
+          let on : isRunning (resumed (ran n r) r) ≡ true = ap (λ (p : Progress). isRunning (resumed p r)) d ∙ going-runs q in
+          let any : leastIn r ≡ 0 = rw h in
+          not-done (sym e ∙ advance-accepts m n on (omega arith))
+
+      by : (p : Progress) → ran n r ≡ p → Ran (n + m) (resumed (ran n r) r)
+      by (going q) d = record { boxes = n; all = stays q d; is = refl }
+      by (over k steps) d =
+          record { boxes = n + m; all = λ h. refl; is = ap (λ (p : Progress). resumed p r) (d ∙ sym (ran-still m n k steps d)) }
 
   -- A call of the list runs the boxes that it asks for.
-  pub next-runs : (c : Call) (p : Progress) → Continues c (resumed p r) → call c (resumed p r) .next ≡ resumed (run (r .table) (amountOf (effect c)) p) r
-  unfolding call outcomeBy after run
-  next-runs c p q = by (effect c) refl q (check c (standingOf (resumed p r))) refl
+  next-runs : (c : Call) (n : ℕ) → Continues c (resumed (ran n r) r) → Ran (n + amountOf (effect c)) (call c (resumed (ran n r) r) .next)
+  unfolding call outcomeBy after
+  next-runs c n q = by (effect c) refl q (check c (standingOf (resumed (ran n r) r))) refl
     where
-      by : (x : Effect) → effect c ≡ x → OnlyRuns x (Accepted c (resumed p r) → ⊥) → (v : Verdict) → check c (standingOf (resumed p r)) ≡ v
-          → outcomeBy v c (resumed p r) .next ≡ resumed (run (r .table) (amountOf x) p) r
+      here : Ran (n + 0) (resumed (ran n r) r)
+      here = record { boxes = n; all = λ h. omega arith; is = refl }
+
+      by : (x : Effect) → effect c ≡ x → OnlyRuns x (Accepted c (resumed (ran n r) r) → ⊥) → (v : Verdict) → check c (standingOf (resumed (ran n r) r)) ≡ v
+          → Ran (n + amountOf x) (outcomeBy v c (resumed (ran n r) r) .next)
       by (runs m) e u v d =
           let is = runs-only c m e in
-          subst (λ (k : Call). outcomeBy v k (resumed p r) .next ≡ resumed (run (r .table) m p) r) (sym is)
-          (advance-next m p v (subst (λ (k : Call). check k (standingOf (resumed p r)) ≡ v) is d))
-      by keeps e u Done d = ap (λ (x : Effect). after x (resumed p r)) e
-      by keeps e u (Refused x) d = refl
+          subst (λ (k : Call). Ran (n + m) (outcomeBy v k (resumed (ran n r) r) .next)) (sym is)
+          (advance-next m n v (subst (λ (k : Call). check k (standingOf (resumed (ran n r) r)) ≡ v) is d))
+      by keeps e u Done d = subst (λ (x : Effect). Ran (n + 0) (after x (resumed (ran n r) r))) (sym e) here
+      by keeps e u (Refused x) d = here
       by (begins start) e u Done d = absurd (u d)
-      by (begins start) e u (Refused x) d = refl
+      by (begins start) e u (Refused x) d = here
       by drops e u Done d = absurd (u d)
-      by drops e u (Refused x) d = refl
+      by drops e u (Refused x) d = here
       by (replaces f) e u Done d = absurd (u d)
-      by (replaces f) e u (Refused x) d = refl
+      by (replaces f) e u (Refused x) d = here
 
-  pub final-runs : (cs : List Call) (p : Progress) → AllContinue cs (resumed p r) → final cs (resumed p r) ≡ resumed (run (r .table) (asked cs) p) r
-  unfolding final asked run
-  final-runs [] p q = refl
-  final-runs (c ∷ cs) p q =
-      let one = next-runs c p (q .0) in
-      let there = run (r .table) (amountOf (effect c)) p in
-      ap (final cs) one
-      ∙ final-runs cs there (subst (AllContinue cs) one (q .1))
-      ∙ ap (λ (x : Progress). resumed x r) (sym (run-add (r .table) (amountOf (effect c)) (asked cs) p))
-
-  -- What a list tells, one of its calls tells of a runner whose run has come further.
-  pub record ToldAt (p : Progress) (t : Told) : Type 0 where
-    pub boxes : ℕ
-    pub by : Call
-    pub is : t ≡ call by (resumed (run (r .table) boxes p) r) .told
-
-  later-told : (n : ℕ) (p : Progress) (t : Told) → ToldAt (run (r .table) n p) t → ToldAt p t
-  later-told n p t x =
+  final-runs : (cs : List Call) (n : ℕ) → AllContinue cs (resumed (ran n r) r) → Ran (n + asked cs) (final cs (resumed (ran n r) r))
+  unfolding final asked
+  final-runs [] n q = record { boxes = n; all = λ h. omega arith; is = refl }
+  final-runs (c ∷ cs) n q =
+      let one = next-runs c n (q .0) in
+      let rest = final-runs cs (one .boxes) (subst (AllContinue cs) (one .is) (q .1)) in
       record {
-        boxes = n + x .boxes;
-        by = x .by;
-        is = x .is ∙ ap (λ (y : Progress). call (x .by) (resumed y r) .told) (sym (run-add (r .table) n (x .boxes) p));
+        boxes = rest .boxes;
+        all = λ h. let a = one .all h in let b = rest .all h in omega arith;
+        is = ap (final cs) (one .is) ∙ rest .is;
       }
 
-  pub told-at : (cs : List Call) (p : Progress) → AllContinue cs (resumed p r) → (t : Told) → List·Memᴰ t (tells cs (resumed p r)) → ToldAt p t
-  unfolding tells run
-  told-at [] p q t m = absurd (List·Memᴰ·not-nil m)
-  told-at (c ∷ cs) p q t m =
-      let n = amountOf (effect c) in
-      let next = next-runs c p (q .0) in
+  -- What a call of the list replies: without steps; what an accepted advance tells of the run; or the ending that it is over with.
+  pub data Replied : Reply → Type 0 where
+    did : Replied done
+    holds : {inputs boxes : ℕ} → Replied (chart inputs boxes)
+    came : (n : ℕ) → leastIn r ≤ n → Replied (progressReply mode (ran n r))
+    ended-so : (n : ℕ) {e : Ending} {steps : ℕ} → ran n r ≡ over e steps → Replied (ending e steps)
+    put : {bytes : ℕ} → Replied (wrote bytes)
+    turned : {number detail : ℕ} → Replied (refused number detail)
+
+  advance-says : (m n : ℕ) → Accepted (advance m) (resumed (ran n r) r) → says (advance m) (resumed (ran n r) r) ≡ progressReply mode (ran (n + m) r)
+  unfolding outcomeBy
+  advance-says m n a = ap (λ (o : Outcome). o .told .reply) (sym (call-done (advance m) _ a) ∙ advance-does m n a)
+
+  said : (c : Call) (n : ℕ) → Accepted c (resumed (ran n r) r) → Replied (says c (resumed (ran n r) r))
+  unfolding says
+  said (load f) n a = holds
+  said (begin m i w l) n a = did
+  said (advance m) n a =
+      let least = advance-asked m n a in
+      subst Replied (sym (advance-says m n a)) (came (n + m) (omega arith))
+  said answer n a = by (ran n r) refl a
+    where
+      by : (p : Progress) → ran n r ≡ p → Accepted answer (resumed p r) → Replied (says answer (resumed p r))
+      by (going q) e d = absurd (going-does-not-answer q d)
+      by (over k steps) e d = subst Replied (sym (over-says k steps)) (ended-so n e)
+  said abandon n a = did
+  said (writeBack b) n a = put
+
+  told-so : (c : Call) (n : ℕ) → Replied (call c (resumed (ran n r) r) .told .reply)
+  unfolding call outcomeBy
+  told-so c n = by (check c (standingOf (resumed (ran n r) r))) refl
+    where
+      by : (v : Verdict) → check c (standingOf (resumed (ran n r) r)) ≡ v → Replied (outcomeBy v c (resumed (ran n r) r) .told .reply)
+      by Done e = said c n e
+      by (Refused x) e = turned
+
+  all-told : (cs : List Call) (n : ℕ) → AllContinue cs (resumed (ran n r) r) → (t : Told) → List·Memᴰ t (tells cs (resumed (ran n r) r)) → Replied (t .reply)
+  unfolding tells
+  all-told [] n q t m = absurd (List·Memᴰ·not-nil m)
+  all-told (c ∷ cs) n q t m =
+      let one = next-runs c n (q .0) in
       ⊎-elim
-      (λ e. record { boxes = 0; by = c; is = e })
-      (λ k. later-told n p t
-      (told-at cs (run (r .table) n p) (subst (AllContinue cs) next (q .1)) t (subst (λ (x : Runner). List·Memᴰ t (tells cs x)) next k)))
+      (λ e. subst (λ (u : Told). Replied (u .reply)) (sym e) (told-so c n))
+      (λ k. all-told cs (one .boxes) (subst (AllContinue cs) (one .is) (q .1)) t (subst (λ (x : Runner). List·Memᴰ t (tells cs x)) (one .is) k))
       (List·Memᴰ·cases-cons m)
 
   -- A list from a runner that is r.
   module _ {start : Runner} (e : start ≡ r) where
-    pub from-start : start ≡ resumed (going (runIn r)) r
+    pub from-start : start ≡ resumed (ran 0 r) r
+    unfolding kept run
     from-start = e ∙ sym self-resumed
 
-    pub final-from : (cs : List Call) → AllContinue cs start → final cs start ≡ resumed (ran (asked cs) r) r
-    final-from cs q = ap (final cs) from-start ∙ final-runs cs (going (runIn r)) (subst (AllContinue cs) from-start q)
+    pub final-from : (cs : List Call) → AllContinue cs start → Ran (asked cs) (final cs start)
+    final-from cs q =
+        let last = final-runs cs 0 (subst (AllContinue cs) from-start q) in
+        record {
+          boxes = last .boxes;
+          all = λ h. let a = last .all h in omega arith;
+          is = ap (final cs) from-start ∙ last .is;
+        }
+
+    pub replied-from : (cs : List Call) → AllContinue cs start → (t : Told) → List·Memᴰ t (tells cs start) → Replied (t .reply)
+    replied-from cs q t m =
+        all-told cs 0 (subst (AllContinue cs) from-start q) t (subst (λ (x : Runner). List·Memᴰ t (tells cs x)) from-start m)

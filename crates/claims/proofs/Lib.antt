@@ -1,4 +1,4 @@
--- The theorems: laws that several share, a run of boxes, lists of calls, what holds of every reachable runner, demand 3, the marks as sets, and the other
+-- The theorems: laws that several share, a run of boxes, lists of calls, what holds of every reachable runner, demand 3, high-water runs, the marks as sets, and the other
 -- claims.
 pub mod Branches
 pub mod Accepting
@@ -6,6 +6,7 @@ pub mod Decoded
 pub mod Counting
 pub mod Continuing
 pub mod Answering
+pub mod Lost
 pub mod Unwinding
 pub mod Pace
 pub mod Inputs
@@ -15,6 +16,7 @@ pub mod OneChart
 pub mod Secrecy
 pub mod Demand3
 pub mod RunLaws
+pub mod HighWater
 pub mod ChartLaws
 pub mod Marking
 pub mod Naming

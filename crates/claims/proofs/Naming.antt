@@ -7,13 +7,13 @@ use mathlib.Core.Bool.{Bool, true, false, cond, _||_, false≢true}
 use native.Mathlib.Omega.{arith}
 use lib.Bits.{bitOr}
 use borrow.Author.Tests.{eqb-true, ne-eqb}
-use Rattle.format.specs.declared.Header.{Header}
+use Rattle.chart.specs.Chart.{Chart}
 use Rattle.decode.specs.Decode.{boxAt, Box, assigns, decides, halts, meaning}
-use Rattle.marks.specs.Marks.{modeOf, marked, union, decisionNotice, counterMark, haltNotice, namedBy}
+use Rattle.marks.specs.Marks.{modeOf, marked, union, decisionNotice, counterMark, haltNotice, namedBy, hides}
 use Rattle.machine.specs.Act.{entry, entries, act}
 use Rattle.machine.specs.Run.{Run, Ending, valued, notice, spent, Progress, going, over, settle, step, run}
 use Rattle.machine.specs.declared.Act.the-variants.{Go, Value}
-use Rattle.machine.proofs.Runs.{run-keeps, goes-by, notice-by}
+use Rattle.machine.proofs.Runs.{run-keeps, goes-by, notice-by, kept-by}
 use Rattle.begin.specs.Begin.{effective, has, allows}
 use Rattle.begin.proofs.Begins.{marks-all, zeros-at}
 use Rattle.calls.specs.Calls.{Call, begin}
@@ -21,12 +21,12 @@ use Rattle.runner.specs.declared.Runner.{Runner}
 use Rattle.runner.specs.State.{chartIn, runIn, namedIn, endedWith, ran, resumed}
 use Rattle.runner.specs.Whole.{startOf}
 use Rattle.runner.specs.Outcomes.{Reply, done, chart, running, ended, ending, wrote, refused, Told}
-use Rattle.claims.specs.Lists.{Accepted, begun, tells, AllContinue, asked}
+use Rattle.claims.specs.Lists.{Accepted, begun, tells, AllContinue}
 use Rattle.claims.specs.Charts.{AllSets}
 use Rattle.claims.specs.Sets.{WithheldOnly, MarksWithheld, namedTold, NamesWithheld, SurveillanceNames, OthersNameNone}
 use Rattle.claims.proofs.Branches.{clash}
 use Rattle.claims.proofs.Inputs.{none-has, or-has, alone-has}
-use Rattle.claims.proofs.Continuing.{from-start, final-from}
+use Rattle.claims.proofs.Continuing.{final-from}
 use Rattle.claims.proofs.Answering.{list-tells}
 use Rattle.claims.proofs.Sets.{Carries, run-carries}
 use Rattle.claims.proofs.Secrecy.{begin-starts, started}
@@ -47,13 +47,16 @@ module _ (allowed k : ℕ) where
   own-withheld i l w j e =
       subst (λ (x : ℕ). (x < k) × (allows allowed x ≡ false)) (eqb-true i j (sym (alone-has i j) ∙ e)) (l, w)
 
-run-withheld : (table : List ℕ) (n mode : ℕ) (inputs : List ℕ) (allowed limit : ℕ) (h : Header)
-    → Carries (WithheldOnly allowed (h .inputs)) (run table n (going (startOf mode inputs allowed limit h)))
-run-withheld table n mode inputs allowed limit h =
-    let k = h .inputs in
+ran-withheld : (n mode : ℕ) (inputs : List ℕ) (allowed limit : ℕ) (c : Chart)
+    → Carries (WithheldOnly allowed (c .header .inputs)) (ran n (started mode inputs allowed limit c))
+ran-withheld n mode inputs allowed limit c =
+    let k = c .header .inputs in
     let none = none-withheld allowed k in
-    run-carries (WithheldOnly allowed k) none (join-withheld allowed k) table n (startOf mode inputs allowed limit h)
-    (record { marks = marks-all (WithheldOnly allowed k) allowed k none (own-withheld allowed k); counter = none })
+    let first = startOf mode inputs allowed limit (c .header) in
+    kept-by (Carries (WithheldOnly allowed k)) (modeOf mode) (run (c .table) n (going first))
+    (run-carries (WithheldOnly allowed k) none (join-withheld allowed k) (c .table) n first
+    (record { marks = marks-all (WithheldOnly allowed k) allowed k none (own-withheld allowed k); counter = none }))
+    (λ h. none)
 
 -- And so does the runner that has come to it.
 resumed-carries : (P : ℕ → Type 0) → P 0 → (p : Progress) (r : Runner) → Carries P p → AllSets P (runIn (resumed p r))
@@ -107,6 +110,11 @@ run-names table mode m q e =
     run-keeps table (Names mode)
     (λ x h. subst (λ (k : ℕ). Names k (step table x)) h (settle-names x (meaning (boxAt table (x .at))))) m (going q) e
 
+-- Where counts are hidden a notice names nothing, and that is not under surveillance.
+hidden-names : (mode : ℕ) → hides (modeOf mode) ≡ true → NamesBy mode (notice 0)
+unfolding modeOf
+hidden-names mode h = record { some = λ o named e. absurd (false≢true (rw o at h)); none = λ o. refl }
+
 -- A property of the set told, which no set has to have, and the set of an ending has.
 told-named : (P : ℕ → Type 0) → P 0 → (x : Reply) → ((e : Ending) (steps : ℕ) → x ≡ ending e steps → P (namedIn e)) → P (namedTold x)
 told-named P none done f = none
@@ -128,23 +136,23 @@ module _ (r : Runner) (mode : ℕ) (inputs : List ℕ) (allowed limit : ℕ) (a 
 
   -- What a call tells with an ending, the run is over with.
   told-over : (t : Told) → List·Memᴰ t (tells cs (begun mode inputs allowed limit r)) → (e : Ending) (steps : ℕ) → t .reply ≡ ending e steps
-      → (boxes : ℕ) × (run (r .table) boxes (going (runIn start)) ≡ over e steps)
-  told-over t m e steps h =
-      let from = from-start start refl begins in
-      list-tells start refl e steps cs (going (runIn start)) (subst (AllContinue cs) from q) t (subst (λ (x : Runner). List·Memᴰ t (tells cs x)) from m) h
+      → (boxes : ℕ) × (ran boxes start ≡ over e steps)
+  told-over t m e steps h = list-tells start refl e steps begins cs q t m h
 
   told-names : (t : Told) → List·Memᴰ t (tells cs (begun mode inputs allowed limit r)) → (e : Ending) (steps : ℕ) → t .reply ≡ ending e steps → NamesBy mode e
   told-names t m e steps h =
       let o = told-over t m e steps h in
-      subst (Names mode) (o .1) (run-names (r .table) mode (o .0) (runIn start) refl)
+      subst (Names mode) (o .1)
+      (kept-by (Names mode) (modeOf mode) (run (r .table) (o .0) (going (runIn start))) (run-names (r .table) mode (o .0) (runIn start) refl) (hidden-names mode))
 
 pub marks-withheld : MarksWithheld
 marks-withheld r mode inputs allowed limit a cs q =
     let s = start r mode inputs allowed limit a cs q in
     let P = WithheldOnly allowed (r .header .inputs) in
-    subst (λ (x : Runner). AllSets P (runIn x)) (sym (final-from s refl (begins r mode inputs allowed limit a cs q) cs q))
-    (resumed-carries P (none-withheld allowed (r .header .inputs)) (ran (asked cs) s) s
-    (run-withheld (r .table) (asked cs) mode inputs allowed (effective limit) (r .header)))
+    let last = final-from s refl (begins r mode inputs allowed limit a cs q) cs q in
+    subst (λ (x : Runner). AllSets P (runIn x)) (sym (last .is))
+    (resumed-carries P (none-withheld allowed (r .header .inputs)) (ran (last .boxes) s) s
+    (ran-withheld (last .boxes) mode inputs allowed (effective limit) (chartIn r)))
 
 pub names-withheld : NamesWithheld
 names-withheld r mode inputs allowed limit a cs q t m =
@@ -152,7 +160,7 @@ names-withheld r mode inputs allowed limit a cs q t m =
     told-named P (none-withheld allowed (r .header .inputs)) (t .reply)
     (λ e steps h.
     let o = told-over r mode inputs allowed limit a cs q t m e steps h in
-    subst (Carries P) (o .1) (run-withheld (r .table) (o .0) mode inputs allowed (effective limit) (r .header)))
+    subst (Carries P) (o .1) (ran-withheld (o .0) mode inputs allowed (effective limit) (chartIn r)))
 
 pub surveillance-names : SurveillanceNames
 surveillance-names r mode inputs allowed limit a cs q t m one named steps h =

@@ -37,8 +37,8 @@ one-file-held r r′ file past past′ a a′ n n′ buffer room =
 
 pub one-file : OneFile
 unfolding effective
-one-file r r′ file past past′ g g′ a a′ n n′ inputs inputs′ allowed alike b b′ cs =
-    noninterference _ _ inputs inputs′ allowed 0 limitForNone
+one-file r r′ file past past′ g g′ a a′ n n′ mode guards inputs inputs′ allowed alike b b′ cs =
+    noninterference mode guards _ _ inputs inputs′ allowed 0 limitForNone
     (record {
       made = reached-final past (then g (load file));
       made′ = reached-final past′ (then g′ (load file));

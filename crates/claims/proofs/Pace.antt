@@ -2,7 +2,7 @@
 -- one of them ends or high-water can tell no value any more. An ended run stays still, so both are run to a common number of boxes.
 -- Assumes nothing.
 use Prim.Native.Nat.{ℕ, zero, suc, _%_}
-use mathlib.Core.Path.{_≡_, refl, sym, _∙_, subst}
+use mathlib.Core.Path.{_≡_, refl, sym, subst}
 use mathlib.Core.List.{List, [], _∷_}
 use mathlib.Core.Bool.{Bool, true, false, cond}
 use lib.Bits.{bitOr}
@@ -10,12 +10,14 @@ use lib.Dec.{leb}
 use lib.ListN.{length, getD, set, length-set}
 use Rattle.decode.specs.Decode.{boxAt, Box, assigns, decides, halts, meaning}
 use Rattle.marks.specs.Marks.{modeOf, marked, union}
+use Rattle.marks.specs.declared.Mode.{Mode}
 use Rattle.marks.specs.declared.Mode.the-variants.{Surveillance, HighWater}
-use Rattle.marks.proofs.MarkLaws.{or-none, or-zeros, union-none, marked-none, none-marked, marked-or}
+use Rattle.marks.proofs.MarkLaws.{or-none, or-zeros, union-none, marked-none, none-marked}
 use Rattle.machine.specs.Act.{entry, entries, act}
-use Rattle.machine.specs.Run.{Run, Ending, valued, notice, spent, Progress, going, over, moved, goesOn, settle, step, onward, run}
+use Rattle.machine.specs.Run.{Run, Ending, valued, Progress, going, over, moved, goesOn, settle, step, onward, run}
 use Rattle.machine.specs.declared.Act.the-variants.{Go, Value, Notice}
 use Rattle.claims.proofs.Branches.{clash, cond-both, set-each}
+use Rattle.claims.proofs.Lost.{Lost, counted, noticed, used-up, goes-lost, stepBy, onward-lost}
 
 -- The marks of surveillance lie under those of the high-water mark.
 pub record Under (ms hs : List ℕ) : Type 0 where
@@ -41,39 +43,17 @@ abbrev pub beside : Run → List ℕ → Run
 beside q ms =
     record { vars = q .vars; marks = ms; counter = 0; mode = 1; at = q .at; limit = q .limit; steps = q .steps }
 
--- A high-water run that can tell no value any more.
-pub data Lost : Progress → Type 0 where
-  counted : {q : Run} → q .mode ≡ 2 → marked (q .counter) ≡ true → Lost (going q)
-  noticed : {named steps : ℕ} → Lost (over (notice named) steps)
-  used-up : {steps : ℕ} → Lost (over spent steps)
-
 pub data Pace : Progress → Progress → Type 0 where
   lost : {h s : Progress} → Lost h → Pace h s
   both : {v steps : ℕ} → Pace (over (valued v) steps) (over (valued v) steps)
-  level : {q : Run} (ms : List ℕ) → q .mode ≡ 2 → q .counter ≡ 0 → Under ms (q .marks) → Pace (going q) (going (beside q ms))
+  level : {q : Run} (ms : List ℕ) → modeOf (q .mode) ≡ HighWater → q .counter ≡ 0 → Under ms (q .marks) → Pace (going q) (going (beside q ms))
 
-goes-lost : (q : Run) → q .mode ≡ 2 → marked (q .counter) ≡ true → Lost (goesOn q)
-unfolding goesOn
-goes-lost q m c =
-    cond-both (λ x y. Lost x) {a′ = going q} {c′ = going q} (leb (q .limit) (q .steps)) used-up (counted {q = q} m c)
-
-goes-level : (q : Run) (ms : List ℕ) → q .mode ≡ 2 → q .counter ≡ 0 → Under ms (q .marks) → Pace (goesOn q) (goesOn (beside q ms))
+goes-level : (q : Run) (ms : List ℕ) → modeOf (q .mode) ≡ HighWater → q .counter ≡ 0 → Under ms (q .marks) → Pace (goesOn q) (goesOn (beside q ms))
 unfolding goesOn
 goes-level q ms m c u = cond-both Pace (leb (q .limit) (q .steps)) (lost used-up) (level {q = q} ms m c u)
 
--- A union with a mark is marked.
-marked-left : (a b : ℕ) → marked a ≡ true → marked (bitOr a b) ≡ true
-marked-left a b e = marked-or a b ∙ rw e
-
--- A lost run stays lost.
-settle-lost : (q : Run) (b : Box) → q .mode ≡ 2 → marked (q .counter) ≡ true → Lost (settle (act HighWater b (q .vars) (q .marks) (q .counter)) q)
-unfolding settle act
-settle-lost q (assigns t reads gives next) m c = goes-lost _ m c
-settle-lost q (decides reads holds next other) m c = goes-lost _ m (marked-left (q .counter) (union (entries (q .marks) reads)) c)
-settle-lost q halts m c = rw (marked-left (q .counter) (entry (q .marks) 31) c) noticed
-
 -- One box of both.
-settle-pace : (q : Run) (ms : List ℕ) (b : Box) → q .mode ≡ 2 → q .counter ≡ 0 → Under ms (q .marks)
+settle-pace : (q : Run) (ms : List ℕ) (b : Box) → modeOf (q .mode) ≡ HighWater → q .counter ≡ 0 → Under ms (q .marks)
     → Pace (settle (act HighWater b (q .vars) (q .marks) (q .counter)) q) (settle (act Surveillance b (q .vars) ms 0) (beside q ms))
 unfolding settle act
 settle-pace q ms (assigns t reads gives next) m c u =
@@ -105,22 +85,12 @@ settle-pace q ms halts m c u = on (marked (bitOr (q .counter) (entry (q .marks) 
         rw none both
 
 module _ (table : List ℕ) where
-  -- The box at hand, by the mode's number.
-  abbrev stepBy : ℕ → Run → Progress
-  stepBy mode q = settle (act (modeOf mode) (meaning (boxAt table (q .at))) (q .vars) (q .marks) (q .counter)) q
-
-  onward-lost : {p : Progress} → Lost p → Lost (onward table p)
-  unfolding onward modeOf
-  onward-lost (counted {q = q} m c) = subst (λ (k : ℕ). Lost (stepBy k q)) (sym m) (settle-lost q (meaning (boxAt table (q .at))) m c)
-  onward-lost noticed = noticed
-  onward-lost used-up = used-up
-
   onward-pace : {h s : Progress} → Pace h s → Pace (onward table h) (onward table s)
   unfolding onward modeOf
-  onward-pace (lost l) = lost (onward-lost l)
+  onward-pace (lost l) = lost (onward-lost table l)
   onward-pace both = both
   onward-pace (level {q = q} ms m c u) =
-      subst (λ (k : ℕ). Pace (stepBy k q) (step table (beside q ms))) (sym m) (settle-pace q ms (meaning (boxAt table (q .at))) m c u)
+      subst (λ (k : Mode). Pace (stepBy table k q) (step table (beside q ms))) (sym m) (settle-pace q ms (meaning (boxAt table (q .at))) m c u)
 
   pub run-pace : (n : ℕ) {h s : Progress} → Pace h s → Pace (run table n h) (run table n s)
   unfolding run

@@ -3,7 +3,7 @@
 use Prim.Native.Nat.{ℕ, _≤_, _<_}
 use mathlib.Core.Path.{_≡_, refl, ap, sym, _∙_, subst}
 use mathlib.Core.List.{List}
-use mathlib.Core.Bool.{Bool, true, false, cond, not, true≢false, false≢true}
+use mathlib.Core.Bool.{true, false, cond, true≢false, false≢true}
 use native.Mathlib.Omega.{arith}
 use lib.Bits.{or-lt}
 use lib.Pow.{pow-pos, pow-lt}
@@ -25,13 +25,13 @@ use Rattle.marks.specs.declared.Mode.{Mode}
 use Rattle.machine.specs.Act.{entry, entries, act}
 use Rattle.machine.specs.Run.{Run, Ending, valued, notice, spent, Progress, going, over, moved, goesOn, settle, step, run}
 use Rattle.machine.specs.declared.Act.the-variants.{Go, Value}
-use Rattle.machine.proofs.Runs.{run-keeps, goes-by, notice-by}
+use Rattle.machine.proofs.Runs.{run-keeps, goes-by, notice-by, kept-by}
 use Rattle.begin.specs.Begin.{effective}
 use Rattle.begin.proofs.Begins.{effective-positive, effective-fits, length-vars, length-marks, marks-all}
-use Rattle.calls.specs.Calls.{Call, load, begin, advance, answer, abandon, writeBack, refuseIf, fileVerdict, check}
+use Rattle.calls.specs.Calls.{Call, load, begin, advance, answer, abandon, writeBack, fileVerdict, check}
 use Rattle.calls.specs.declared.Verdict.{Verdict}
 use Rattle.calls.specs.declared.Verdict.the-variants.{Done, Refused}
-use Rattle.calls.proofs.Permits.{not-done, passed, permitted}
+use Rattle.calls.proofs.Permits.{not-done, passed, permitted, advance-enough}
 use Rattle.runner.specs.declared.Runner.{Runner}
 use Rattle.runner.specs.State.{chartIn, isHeld, isRunning, isEnded, standingOf, endingIn, namedIn, runIn, withRun, underWay, idle, newRunner, endedWith, dropped, ran, resumed}
 use Rattle.runner.specs.Whole.{startOf}
@@ -161,17 +161,17 @@ start-sound mode inputs allowed limit r e h =
     })
 
 advance-sound : (m : ℕ) (r : Runner) → check (advance m) (standingOf r) ≡ Done → Sound r → Sound (resumed (ran m r) r)
-unfolding check
-advance-sound m r e h = on (isRunning r) refl e
-  where
-    on : (b : Bool) → isRunning r ≡ b → refuseIf (not b) 23 Done ≡ Done → Sound (resumed (ran m r) r)
-    on true q z =
-        let u = h .runs q in
-        let f = h .held (u .held) in
-        let k = r .header .inputs in
-        resumed-sound r (eqb-true _ _ q) f u (ran m r) (run-ranged (r .header) (r .table) f m (runIn r) (u .ranged))
-        (run-carries (InputsOf (r .header)) (pow-pos k) (or-lt k) (r .table) m (runIn r) (u .sets))
-    on false q z = not-done z
+advance-sound m r e h =
+    let on = advance-enough m (standingOf r) e .0 in
+    let u = h .runs on in
+    let f = h .held (u .held) in
+    let k = r .header .inputs in
+    let mode = modeOf (r .mode) in
+    let come = run (r .table) m (going (runIn r)) in
+    resumed-sound r (eqb-true _ _ on) f u (ran m r)
+    (kept-by (Ranged (r .header)) mode come (run-ranged (r .header) (r .table) f m (runIn r) (u .ranged)) (λ z. tt))
+    (kept-by (Carries (InputsOf (r .header))) mode come
+    (run-carries (InputsOf (r .header)) (pow-pos k) (or-lt k) (r .table) m (runIn r) (u .sets)) (λ z. pow-pos k))
 
 outcome-sound : (v : Verdict) (c : Call) (r : Runner) → check c (standingOf r) ≡ v → Sound r → Sound (outcomeBy v c r .next)
 unfolding outcomeBy after dropped

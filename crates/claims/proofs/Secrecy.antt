@@ -1,14 +1,18 @@
--- Demand 3, first half: two surveillance begins on one chart with the same allowed inputs hand back low-equal runners, and low-equal runners
+-- Demand 3, first half: two begins in one mode that guards, on one chart with the same allowed inputs, hand back low-equal runners, and low-equal runners
 -- tell the same. Assumes nothing.
 use Prim.Native.Nat.{ℕ, _≤_}
 use mathlib.Core.Path.{_≡_, refl, ap, sym, _∙_}
 use mathlib.Core.List.{List}
+use mathlib.Core.Logic.{inl, inr}
 use native.Mathlib.Omega.{arith}
 use lib.ListN.{length}
 use Rattle.format.proofs.Ranges.{in-range}
 use Rattle.chart.specs.Chart.{Chart}
+use Rattle.marks.specs.Marks.{modeOf}
+use Rattle.marks.specs.declared.Mode.{Mode}
+use Rattle.machine.specs.Run.{Run}
 use Rattle.begin.specs.Begin.{effective, firstVars}
-use Rattle.begin.proofs.Begins.{length-vars, length-marks, first-agree}
+use Rattle.begin.proofs.Begins.{effective-positive, length-vars, length-marks, first-agree}
 use Rattle.calls.specs.Calls.{begin}
 use Rattle.calls.proofs.Permits.{Permitted, permitted}
 use Rattle.runner.specs.declared.Runner.{Runner}
@@ -16,10 +20,10 @@ use Rattle.runner.specs.State.{chartIn, standingOf, underWay}
 use Rattle.runner.specs.Whole.{startOf}
 use Rattle.runner.specs.Outcomes.{Outcome, after, outcomeBy, call}
 use Rattle.claims.specs.Lists.{Accepted, tells}
-use Rattle.claims.specs.Demand3.{AllowedAlike, Noninterference}
+use Rattle.claims.specs.Demand3.{AllowedAlike, SameLimit, Secrecy, Noninterference}
 use Rattle.claims.proofs.Accepting.{call-done}
 use Rattle.claims.proofs.OneChart.{one-chart}
-use Rattle.claims.proofs.Unwinding.{LowEqual, apart, tells-low}
+use Rattle.claims.proofs.Unwinding.{Watched, surveyed, unmarked, LowEqual, apart, tells-low}
 
 -- An accepted begin.
 pub begin-permits : (mode : ℕ) (inputs : List ℕ) (allowed limit : ℕ) (r : Runner)
@@ -42,29 +46,35 @@ pub starts-same : (mode : ℕ) (inputs : List ℕ) (allowed l l′ : ℕ) {c c�
     → started mode inputs allowed l c ≡ started mode inputs allowed l′ c′
 starts-same mode inputs allowed l l′ {c} {c′} s e = ap (λ (n : ℕ). started mode inputs allowed n c) e ∙ ap (started mode inputs allowed l′) s
 
-start-low : (c : Chart) (inputs inputs′ : List ℕ) (allowed l : ℕ)
-    → c .header .inputs ≤ 16
-    → length inputs ≡ c .header .inputs
-    → length inputs′ ≡ c .header .inputs
-    → AllowedAlike allowed inputs inputs′
-    → LowEqual (started 1 inputs allowed l c) (started 1 inputs′ allowed l c)
-start-low c inputs inputs′ allowed l few e e′ f =
-    let k = c .header .inputs in
-    apart (firstVars inputs′) refl refl
-    (record {
-      left = length-vars inputs (omega arith) ∙ sym (length-marks allowed k);
-      right = length-vars inputs′ (omega arith) ∙ sym (length-marks allowed k);
-      agree = first-agree allowed k inputs inputs′ (omega arith) e e′ (λ j b. f j);
-    })
+-- A mode that guards, as the start of a run has it.
+module _ (mode : ℕ) {m : Mode} (guards : (q : Run) → q .mode ≡ mode → q .counter ≡ 0 → Watched m q) where
+  start-low : (c : Chart) (inputs inputs′ : List ℕ) (allowed limit : ℕ)
+      → c .header .inputs ≤ 16
+      → length inputs ≡ c .header .inputs
+      → length inputs′ ≡ c .header .inputs
+      → AllowedAlike allowed inputs inputs′
+      → LowEqual (started mode inputs allowed (effective limit) c) (started mode inputs′ allowed (effective limit) c)
+  start-low c inputs inputs′ allowed limit few e e′ f =
+      let k = c .header .inputs in
+      apart (firstVars inputs′) refl (guards (startOf mode inputs allowed (effective limit) (c .header)) refl refl) (λ h. effective-positive limit)
+      (record {
+        left = length-vars inputs (omega arith) ∙ sym (length-marks allowed k);
+        right = length-vars inputs′ (omega arith) ∙ sym (length-marks allowed k);
+        agree = first-agree allowed k inputs inputs′ (omega arith) e e′ (λ j b. f j);
+      })
+
+  secret : Secrecy mode mode SameLimit
+  secret r r′ inputs inputs′ allowed limit limit′ b f cs =
+      let p = begin-permits mode inputs allowed limit r (b .accepted) in
+      let p′ = begin-permits mode inputs′ allowed limit′ r′ (b .accepted′) in
+      let c = one-chart r r′ (b .made) (b .made′) (p .held) (p′ .held) (b .one-chart) in
+      let k : r .header .inputs ≡ r′ .header .inputs = ap (λ (x : Chart). x .header .inputs) c in
+      ap (tells cs) (begin-starts mode inputs allowed limit r (b .accepted))
+      ∙ tells-low cs (start-low (chartIn r) inputs inputs′ allowed limit (in-range (r .header) (p .held) .few) (p .lent) (p′ .lent ∙ sym k) f)
+      ∙ ap (tells cs) (starts-same mode inputs′ allowed (effective limit) (effective limit′) c (b .limits))
+      ∙ sym (ap (tells cs) (begin-starts mode inputs′ allowed limit′ r′ (b .accepted′)))
 
 pub noninterference : Noninterference
-noninterference r r′ inputs inputs′ allowed limit limit′ b f cs =
-    let p = begin-permits 1 inputs allowed limit r (b .accepted) in
-    let p′ = begin-permits 1 inputs′ allowed limit′ r′ (b .accepted′) in
-    let c = one-chart r r′ (b .made) (b .made′) (p .held) (p′ .held) (b .one-chart) in
-    let k : r .header .inputs ≡ r′ .header .inputs = ap (λ (x : Chart). x .header .inputs) c in
-    let l = effective limit in
-    ap (tells cs) (begin-starts 1 inputs allowed limit r (b .accepted))
-    ∙ tells-low cs (start-low (chartIn r) inputs inputs′ allowed l (in-range (r .header) (p .held) .few) (p .lent) (p′ .lent ∙ sym k) f)
-    ∙ ap (tells cs) (starts-same 1 inputs′ allowed l (effective limit′) c (b .limits))
-    ∙ sym (ap (tells cs) (begin-starts 1 inputs′ allowed limit′ r′ (b .accepted′)))
+unfolding modeOf
+noninterference mode (inl e) = secret mode (λ q d c. surveyed (ap modeOf (d ∙ e)))
+noninterference mode (inr e) = secret mode (λ q d c. unmarked (ap modeOf (d ∙ e)) c)

@@ -1,29 +1,35 @@
--- Unwinding for surveillance. Two runs are low-equal when they are the same, or both are under way under surveillance and differ only in variables
--- that are marked. A box keeps that (step consistency), so does every call, and every call tells the same (output consistency); then one induction
--- over the list. Assumes nothing.
-use Prim.Native.Nat.{ℕ, zero, suc, _%_}
+-- Unwinding for the modes that guard. Two runs are low-equal when they are the same; or both are under way at one box and differ only in variables that are marked; or,
+-- with the high-water mark, both can tell no value any more. A box keeps that (step consistency). An advance of a high-water run ends it and hides how it was lost, so every
+-- call keeps low-equal runners so and tells the same (output consistency); then one induction over the list. Assumes nothing.
+use Prim.Native.Nat.{ℕ, zero, suc, _%_, _≤_, _<_}
 use mathlib.Core.Path.{_≡_, refl, ap, sym, subst}
 use mathlib.Core.List.{List, [], _∷_}
-use mathlib.Core.Bool.{Bool, true, false, cond}
+use mathlib.Core.Bool.{Bool, true, false, cond, false≢true}
+use native.Mathlib.Omega.{arith}
+use lib.Bits.{bitOr}
 use lib.Dec.{leb}
 use lib.ListN.{length, getD, set, length-set}
 use Rattle.chart.specs.WriteBack.{withFile}
 use Rattle.decode.specs.Decode.{boxAt, Box, assigns, decides, halts, meaning}
-use Rattle.marks.specs.Marks.{modeOf, marked, union}
-use Rattle.marks.specs.declared.Mode.the-variants.{Surveillance}
-use Rattle.marks.proofs.MarkLaws.{union-none, marked-none}
+use Rattle.marks.specs.Marks.{modeOf, marked, union, hides}
+use Rattle.marks.specs.declared.Mode.{Mode}
+use Rattle.marks.specs.declared.Mode.the-variants.{Surveillance, HighWater}
+use Rattle.marks.proofs.MarkLaws.{or-none, union-none, marked-none}
 use Rattle.machine.specs.Act.{entry, entries, act}
-use Rattle.machine.specs.Run.{Run, Progress, going, over, goesOn, settle, step, onward, run}
+use Rattle.machine.specs.Run.{Run, Progress, going, over, goesOn, settle, step, onward, run, kept}
 use Rattle.machine.specs.declared.Act.the-variants.{Go, Value, Notice}
 use Rattle.calls.specs.Calls.{Call, load, begin, advance, answer, abandon, writeBack, check}
 use Rattle.calls.specs.declared.Verdict.{Verdict}
 use Rattle.calls.specs.declared.Verdict.the-variants.{Done, Refused}
+use Rattle.calls.proofs.Permits.{advance-enough}
 use Rattle.runner.specs.declared.Runner.{Runner}
-use Rattle.runner.specs.State.{standingOf, runIn, withRun, endedWith, dropped, resumed}
+use Rattle.runner.specs.State.{leastIn, standingOf, runIn, withRun, endedWith, dropped, ran, resumed}
 use Rattle.runner.specs.Outcomes.{Reply, Outcome, Effect, runs, keeps, begins, drops, replaces, effect, after, progressReply, says, lentAs, outcomeBy, call}
 use Rattle.claims.specs.Lists.{tells}
-use Rattle.claims.proofs.Branches.{cond-both, set-each}
-use Rattle.claims.proofs.Accepting.{no-answer}
+use Rattle.claims.proofs.Branches.{clash, cond-both, set-each}
+use Rattle.claims.proofs.Accepting.{no-answer, runs-accepted}
+use Rattle.claims.proofs.Counting.{Over, run-ends}
+use Rattle.claims.proofs.Lost.{Lost, goes-lost, stepBy, onward-lost, lost-hidden}
 
 -- Two lists of values that agree wherever there is no mark.
 pub record Agree (marks v w : List ℕ) : Type 0 where
@@ -52,108 +58,170 @@ abbrev pub withVars : Run → List ℕ → Run
 withVars q w =
     record { vars = w; marks = q .marks; counter = q .counter; mode = q .mode; at = q .at; limit = q .limit; steps = q .steps }
 
-data Low : Progress → Progress → Type 0 where
-  same-run : {p : Progress} → Low p p
-  runs-apart : {q : Run} (w : List ℕ) → q .mode ≡ 1 → Agree (q .marks) (q .vars) w → Low (going q) (going (withVars q w))
+-- A run that a mode guards: under surveillance, or with the high-water mark while no decision has read a marked variable.
+pub data Watched : Mode → Run → Type 0 where
+  surveyed : {q : Run} → modeOf (q .mode) ≡ Surveillance → Watched Surveillance q
+  unmarked : {q : Run} → modeOf (q .mode) ≡ HighWater → q .counter ≡ 0 → Watched HighWater q
 
-goes-low : (q : Run) (w : List ℕ) → q .mode ≡ 1 → Agree (q .marks) (q .vars) w → Low (goesOn q) (goesOn (withVars q w))
+data Low : Mode → Progress → Progress → Type 0 where
+  same-run : {m : Mode} {p : Progress} → Low m p p
+  runs-apart : {m : Mode} {q : Run} (w : List ℕ) → Watched m q → Agree (q .marks) (q .vars) w → Low m (going q) (going (withVars q w))
+  both-lost : {p p′ : Progress} → Lost p → Lost p′ → Low HighWater p p′
+
+goes-low : {m : Mode} (q : Run) (w : List ℕ) → Watched m q → Agree (q .marks) (q .vars) w → Low m (goesOn q) (goesOn (withVars q w))
 unfolding goesOn
-goes-low q w m h = cond-both Low (leb (q .limit) (q .steps)) same-run (runs-apart {q = q} w m h)
+goes-low {m} q w s h = cond-both (Low m) (leb (q .limit) (q .steps)) same-run (runs-apart {q = q} w s h)
 
 -- Step consistency.
-settle-low : (q : Run) (w : List ℕ) (b : Box) → q .mode ≡ 1 → Agree (q .marks) (q .vars) w
-    → Low (settle (act Surveillance b (q .vars) (q .marks) (q .counter)) q) (settle (act Surveillance b w (q .marks) (q .counter)) (withVars q w))
-unfolding settle act
-settle-low q w (assigns t reads gives next) m h =
-    goes-low _ _ m
-    (set-agree h (t % 32) (gives (entries (q .vars) reads)) (gives (entries w reads)) (union (entries (q .marks) reads))
-    (λ z. ap gives (values-agree h reads z)))
-settle-low q w (decides reads holds next other) m h = on (marked (union (entries (q .marks) reads))) refl
-  where
-    on : (b : Bool) → marked (union (entries (q .marks) reads)) ≡ b
-        → Low (settle (cond b (Notice (union (entries (q .marks) reads))) (Go (cond (holds (entries (q .vars) reads)) next other) (q .counter))) q)
-        (settle (cond b (Notice (union (entries (q .marks) reads))) (Go (cond (holds (entries w reads)) next other) (q .counter))) (withVars q w))
-    on true e = same-run
-    on false e = rw (← values-agree h reads (marked-none _ e)) (goes-low _ w m h)
-settle-low q w halts m h = on (marked (entry (q .marks) 31)) refl
-  where
-    on : (b : Bool) → marked (entry (q .marks) 31) ≡ b
-        → Low (settle (cond b (Notice (entry (q .marks) 31)) (Value (entry (q .vars) 31))) q)
-        (settle (cond b (Notice (entry (q .marks) 31)) (Value (entry w 31))) (withVars q w))
-    on true e = same-run
-    on false e = rw (h .agree 31 (marked-none _ e)) same-run
+module _ (q : Run) (w : List ℕ) (h : Agree (q .marks) (q .vars) w) where
+  abbrev settlesLow : Mode → Box → Type 0
+  settlesLow m b = Low m (settle (act m b (q .vars) (q .marks) (q .counter)) q) (settle (act m b w (q .marks) (q .counter)) (withVars q w))
 
-step-low : (table : List ℕ) (q : Run) (w : List ℕ) → q .mode ≡ 1 → Agree (q .marks) (q .vars) w → Low (step table q) (step table (withVars q w))
-unfolding modeOf
-step-low table q w m h =
-    let b = meaning (boxAt table (q .at)) in
-    subst
-    (λ (k : ℕ). Low (settle (act (modeOf k) b (q .vars) (q .marks) (q .counter)) q) (settle (act (modeOf k) b w (q .marks) (q .counter)) (withVars q w)))
-    (sym m) (settle-low q w b m h)
+  settle-surveyed : (b : Box) → modeOf (q .mode) ≡ Surveillance → settlesLow Surveillance b
+  unfolding settle act
+  settle-surveyed (assigns t reads gives next) m =
+      goes-low _ _ (surveyed m)
+      (set-agree h (t % 32) (gives (entries (q .vars) reads)) (gives (entries w reads)) (union (entries (q .marks) reads))
+      (λ z. ap gives (values-agree h reads z)))
+  settle-surveyed (decides reads holds next other) m = on (marked (union (entries (q .marks) reads))) refl
+    where
+      on : (b : Bool) → marked (union (entries (q .marks) reads)) ≡ b
+          → Low Surveillance
+          (settle (cond b (Notice (union (entries (q .marks) reads))) (Go (cond (holds (entries (q .vars) reads)) next other) (q .counter))) q)
+          (settle (cond b (Notice (union (entries (q .marks) reads))) (Go (cond (holds (entries w reads)) next other) (q .counter))) (withVars q w))
+      on true e = same-run
+      on false e = rw (← values-agree h reads (marked-none _ e)) (goes-low _ w (surveyed m) h)
+  settle-surveyed halts m = on (marked (entry (q .marks) 31)) refl
+    where
+      on : (b : Bool) → marked (entry (q .marks) 31) ≡ b
+          → Low Surveillance
+          (settle (cond b (Notice (entry (q .marks) 31)) (Value (entry (q .vars) 31))) q)
+          (settle (cond b (Notice (entry (q .marks) 31)) (Value (entry w 31))) (withVars q w))
+      on true e = same-run
+      on false e = rw (h .agree 31 (marked-none _ e)) same-run
 
-onward-low : (table : List ℕ) {p p′ : Progress} → Low p p′ → Low (onward table p) (onward table p′)
+  settle-unmarked : (b : Box) → modeOf (q .mode) ≡ HighWater → q .counter ≡ 0 → settlesLow HighWater b
+  unfolding settle act
+  settle-unmarked (assigns t reads gives next) m c =
+      let read = union (entries (q .marks) reads) in
+      goes-low _ _ (unmarked m c)
+      (set-agree h (t % 32) (gives (entries (q .vars) reads)) (gives (entries w reads)) (bitOr (entry (q .marks) t) read)
+      (λ z. ap gives (values-agree h reads (or-none (entry (q .marks) t) read z .1))))
+  settle-unmarked (decides reads holds next other) m c = on (marked (bitOr (q .counter) (union (entries (q .marks) reads)))) refl
+    where
+      on : (b : Bool) → marked (bitOr (q .counter) (union (entries (q .marks) reads))) ≡ b → settlesLow HighWater (decides reads holds next other)
+      on true e = both-lost (goes-lost _ m e) (goes-lost _ m e)
+      on false e =
+          let none = marked-none _ e in
+          rw (← values-agree h reads (or-none (q .counter) _ none .1)) (goes-low _ w (unmarked m none) h)
+  settle-unmarked halts m c = on (marked (bitOr (q .counter) (entry (q .marks) 31))) refl
+    where
+      on : (b : Bool) → marked (bitOr (q .counter) (entry (q .marks) 31)) ≡ b
+          → Low HighWater (settle (cond b (Notice 0) (Value (entry (q .vars) 31))) q) (settle (cond b (Notice 0) (Value (entry w 31))) (withVars q w))
+      on true e = same-run
+      on false e = rw (h .agree 31 (or-none (q .counter) _ (marked-none _ e) .1)) same-run
+
+  -- The box at hand.
+  step-low : (table : List ℕ) {m : Mode} → Watched m q → Low m (step table q) (step table (withVars q w))
+  step-low table (surveyed m) =
+      subst (λ (k : Mode). Low Surveillance (stepBy table k q) (stepBy table k (withVars q w))) (sym m) (settle-surveyed (meaning (boxAt table (q .at))) m)
+  step-low table (unmarked m c) =
+      subst (λ (k : Mode). Low HighWater (stepBy table k q) (stepBy table k (withVars q w))) (sym m) (settle-unmarked (meaning (boxAt table (q .at))) m c)
+
+onward-low : (table : List ℕ) {m : Mode} {p p′ : Progress} → Low m p p′ → Low m (onward table p) (onward table p′)
 unfolding onward
 onward-low table same-run = same-run
-onward-low table (runs-apart {q = q} w m h) = step-low table q w m h
+onward-low table (runs-apart {q = q} w s h) = step-low q w h table s
+onward-low table (both-lost a b) = both-lost (onward-lost table a) (onward-lost table b)
 
-run-low : (table : List ℕ) (m : ℕ) {p p′ : Progress} → Low p p′ → Low (run table m p) (run table m p′)
+run-low : (table : List ℕ) (n : ℕ) {m : Mode} {p p′ : Progress} → Low m p p′ → Low m (run table n p) (run table n p′)
 unfolding run
 run-low table zero h = h
-run-low table (suc m) h = run-low table m (onward-low table h)
+run-low table (suc n) h = run-low table n (onward-low table h)
 
--- The runner with other values in its variables, and low-equal runners.
+-- What is kept of low-equal runs, where one that hides its counts is over: the same, or two runs apart under surveillance.
+data Close : Progress → Progress → Type 0 where
+  close : {p : Progress} → Close p p
+  still-apart : {q : Run} (w : List ℕ) → Watched Surveillance q → Agree (q .marks) (q .vars) w → Close (going q) (going (withVars q w))
+
+kept-close : {m : Mode} {p p′ : Progress} → Low m p p′ → (hides m ≡ true → Over p × Over p′) → Close (kept m p) (kept m p′)
+unfolding kept
+kept-close same-run o = close
+kept-close (runs-apart w (surveyed m) h) o = still-apart w (surveyed m) h
+kept-close (runs-apart w (unmarked m c) h) o = let e = o refl .0 .is in clash cc
+kept-close (both-lost a b) o = rw (lost-hidden a (o refl .0), lost-hidden b (o refl .1)) close
+
+-- The runner with other values in its variables, and low-equal runners. Where counts are hidden, a run under way is below its limit.
 abbrev pub otherVars : Runner → List ℕ → Runner
 otherVars r w = withRun (withVars (runIn r) w) r
 
 pub data LowEqual : Runner → Runner → Type 0 where
   same : {r : Runner} → LowEqual r r
-  apart : {r : Runner} (w : List ℕ) → r .state ≡ 1 → r .mode ≡ 1 → Agree (r .marks) (r .vars) w → LowEqual r (otherVars r w)
+  apart : {r : Runner} {m : Mode} (w : List ℕ) → r .state ≡ 1 → Watched m (runIn r) → (hides m ≡ true → r .steps < r .limit) → Agree (r .marks) (r .vars) w
+      → LowEqual r (otherVars r w)
 
-resumed-low : (r : Runner) (w : List ℕ) → r .state ≡ 1 → {p p′ : Progress} → Low p p′ → LowEqual (resumed p r) (resumed p′ (otherVars r w))
+resumed-low : (r : Runner) (w : List ℕ) → r .state ≡ 1 → {p p′ : Progress} → Close p p′ → LowEqual (resumed p r) (resumed p′ (otherVars r w))
 unfolding resumed endedWith
-resumed-low r w s (same-run {p = going q}) = same
-resumed-low r w s (same-run {p = over e steps}) = same
-resumed-low r w s (runs-apart {q = q} w′ m h) = apart {r = withRun q r} w′ s m h
+resumed-low r w s (close {p = going q}) = same
+resumed-low r w s (close {p = over e steps}) = same
+resumed-low r w s (still-apart {q = q} w′ m h) = apart {r = withRun q r} w′ s m (λ z. absurd (false≢true z)) h
 
 -- Output consistency, and each call keeps the relation.
 record Alike (o o′ : Outcome) : Type 0 where
   told : o .told ≡ o′ .told
   next : LowEqual (o .next) (o′ .next)
 
-progress-low : {p p′ : Progress} → Low p p′ → progressReply p ≡ progressReply p′
+progress-close : (k : Mode) {p p′ : Progress} → Close p p′ → progressReply k p ≡ progressReply k p′
 unfolding progressReply
-progress-low same-run = refl
-progress-low (runs-apart w m h) = refl
+progress-close k close = refl
+progress-close k (still-apart w s h) = refl
 
-module _ (r : Runner) (w : List ℕ) (s : r .state ≡ 1) (m : r .mode ≡ 1) (h : Agree (r .marks) (r .vars) w) where
+module _ (r : Runner) (w : List ℕ) (s : r .state ≡ 1) {m : Mode} (g : Watched m (runIn r)) (b : hides m ≡ true → r .steps < r .limit)
+    (h : Agree (r .marks) (r .vars) w) where
+  ran-close : (k : ℕ) → check (advance k) (standingOf r) ≡ Done → Close (ran k r) (ran k (otherVars r w))
+  ran-close k e = by g (run-low (r .table) k (runs-apart {q = runIn r} w g h)) b
+    where
+      enough : leastIn r ≤ k
+      enough = advance-enough k (standingOf r) e .1
+
+      by : {m : Mode} → Watched m (runIn r)
+          → Low m (run (r .table) k (going (runIn r))) (run (r .table) k (going (withVars (runIn r) w)))
+          → (hides m ≡ true → r .steps < r .limit)
+          → Close (ran k r) (ran k (otherVars r w))
+      by (surveyed a) low below = rw a (kept-close low (λ z. absurd (false≢true z)))
+      by (unmarked a c) low below =
+          let most : r .limit ≤ k = rw a at enough in
+          let under = below refl in
+          rw a (kept-close low (λ z. (run-ends (r .table) k (runIn r) under (omega arith), run-ends (r .table) k (withVars (runIn r) w) under (omega arith))))
+
   says-low : (c : Call) → check c (standingOf r) ≡ Done → says c r ≡ says c (otherVars r w)
   unfolding says
   says-low (load f) e = refl
   says-low (begin k i a l) e = refl
-  says-low (advance k) e = progress-low (run-low (r .table) k (runs-apart {q = runIn r} w m h))
+  says-low (advance k) e = progress-close (modeOf (r .mode)) (ran-close k e)
   says-low answer e = absurd (no-answer r s e)
   says-low abandon e = refl
-  says-low (writeBack b) e = refl
+  says-low (writeBack x) e = refl
 
-  after-low : (x : Effect) → LowEqual (after x r) (after x (otherVars r w))
+  after-low : (x : Effect) → ((k : ℕ) → x ≡ runs k → Close (ran k r) (ran k (otherVars r w))) → LowEqual (after x r) (after x (otherVars r w))
   unfolding after dropped
-  after-low (runs k) = resumed-low r w s (run-low (r .table) k (runs-apart {q = runIn r} w m h))
-  after-low keeps = apart w s m h
-  after-low (begins start) = same
-  after-low drops = same
-  after-low (replaces by) = same
+  after-low (runs k) f = resumed-low r w s (f k refl)
+  after-low keeps f = apart w s g b h
+  after-low (begins start) f = same
+  after-low drops f = same
+  after-low (replaces by) f = same
 
   outcome-low : (v : Verdict) (c : Call) → check c (standingOf r) ≡ v → Alike (outcomeBy v c r) (outcomeBy v c (otherVars r w))
   unfolding outcomeBy
-  outcome-low (Refused x) c e = record { told = refl; next = apart w s m h }
+  outcome-low (Refused x) c e = record { told = refl; next = apart w s g b h }
   outcome-low Done c e =
       let buffer = lentAs (withFile (r .header) (r .table)) c in
-      record { told = ap (λ (x : Reply). record { reply = x; buffer = buffer }) (says-low c e); next = after-low (effect c) }
+      record { told = ap (λ (x : Reply). record { reply = x; buffer = buffer }) (says-low c e); next = after-low (effect c) (λ k z. ran-close k (runs-accepted c k r z e)) }
 
 call-low : (c : Call) {r r′ : Runner} → LowEqual r r′ → Alike (call c r) (call c r′)
 unfolding call
 call-low c same = record { told = refl; next = same }
-call-low c (apart {r = r} w s m h) = outcome-low r w s m h (check c (standingOf r)) c refl
+call-low c (apart {r = r} w s g b h) = outcome-low r w s g b h (check c (standingOf r)) c refl
 
 -- What a list of calls tells is the same of low-equal runners.
 pub tells-low : (cs : List Call) {r r′ : Runner} → LowEqual r r′ → tells cs r ≡ tells cs r′

@@ -1,5 +1,5 @@
 -- The claims at their exact bounds. Each follows from the theorem of its claim alone, so a claim whose bound is moved by one would be noticed here.
-use Prim.Native.Nat.{ℕ, _+_, _^_}
+use Prim.Native.Nat.{ℕ, _+_, _-_, _^_}
 use mathlib.Core.Path.{_≡_}
 use mathlib.Core.List.{List, [], _∷_, List·Memᴰ}
 use mathlib.Core.Logic.{_≢_}
@@ -10,12 +10,12 @@ use Rattle.begin.specs.Begin.{effective, has, allows}
 use Rattle.calls.specs.Calls.{Call, load, advance, answer, writeBack}
 use Rattle.runner.specs.declared.Runner.{Runner}
 use Rattle.runner.specs.State.{isHeld, isRunning, isEnded}
-use Rattle.runner.specs.Outcomes.{ended, wrote, Told, call}
-use Rattle.claims.specs.Lists.{Reached, Accepted, begun, tells, final, AllContinue, Ends}
+use Rattle.runner.specs.Outcomes.{ended, wrote, refused, Told, call}
+use Rattle.claims.specs.Lists.{Reached, Accepted, begun, tells, final, AllContinue, AllTold, Ends}
 use Rattle.claims.specs.Demand3.{Begins, SameLimit, tellsValue, SomeAnswer}
-use Rattle.claims.specs.Runs.{AfterBegin, stepsTold}
+use Rattle.claims.specs.Runs.{NotHighWater, AfterBegin, stepsTold}
 use Rattle.claims.specs.Charts.{AllKeepChart}
-use Rattle.claims.specs.Sets.{AllTold, namedTold}
+use Rattle.claims.specs.Sets.{namedTold}
 
 -- Demand 3's second half: after one advance by exactly the limit an answer tells the value that high-water told.
 abbrev pub AnswersAtTheLimit : Type 0
@@ -26,13 +26,15 @@ AnswersAtTheLimit =
     → SomeAnswer (begun 2 inputs allowed limit r) v steps
     → call answer (call (advance (effective limit′)) (begun 1 inputs allowed limit′ r′) .next) .told ≡ tellsValue v steps
 
--- A run from its start: one advance by exactly the limit ends it; no call tells one step more than the limit; and an advance by m never tells an
--- end in no steps, or in m + 1.
-pub record RunBounds (limit : ℕ) (start : Runner) : Type 0 where
-  pub ends : Ends (advance limit ∷ []) start
+-- A run from its start: no call tells one step more than the limit, and one advance by exactly the limit ends it. In high-water mode an advance by one less is refused; in
+-- the others it and one by 1 after it end the run, and an advance by m never tells an end in no steps, or in m + 1.
+pub record RunBounds (mode limit : ℕ) (start : Runner) : Type 0 where
   pub within : (cs : List Call) → AllContinue cs start → (t : Told) → List·Memᴰ t (tells cs start) → stepsTold (t .reply) ≢ limit + 1
-  pub some : (m : ℕ) → call (advance m) start .told .reply ≢ ended 0
-  pub few : (m : ℕ) → call (advance m) start .told .reply ≢ ended (m + 1)
+  pub ends : Ends (advance limit ∷ []) start
+  pub less : mode ≡ 2 → call (advance (limit - 1)) start .told .reply ≡ refused 13 0
+  pub sum : NotHighWater mode → Ends (advance (limit - 1) ∷ advance 1 ∷ []) start
+  pub some : NotHighWater mode → (m : ℕ) → call (advance m) start .told .reply ≢ ended 0
+  pub few : NotHighWater mode → (m : ℕ) → call (advance m) start .told .reply ≢ ended (m + 1)
 
 abbrev pub RunsWithinBounds : Type 0
 RunsWithinBounds = AfterBegin RunBounds
@@ -68,4 +70,6 @@ StatesWithinBounds =
 -- No set told has a bit at k, or one of an input that is allowed.
 abbrev pub NamesWithinBounds : Type 0
 NamesWithinBounds =
-    AllTold (λ mode allowed k reply. (has (namedTold reply) k ≡ false) × ((j : ℕ) → allows allowed j ≡ true → has (namedTold reply) j ≡ false))
+    AllTold
+    (λ r mode allowed limit reply. (has (namedTold reply) (r .header .inputs) ≡ false)
+    × ((j : ℕ) → allows allowed j ≡ true → has (namedTold reply) j ≡ false))

@@ -2,6 +2,7 @@
 use Prim.Native.Nat.{ℕ, _≤_}
 use mathlib.Core.Path.{_≡_}
 use mathlib.Core.List.{List, [], List·Memᴰ}
+use mathlib.Core.Logic.{_⊎_}
 use mathlib.Core.Bool.{true}
 use lib.ListN.{length, getD}
 use Rattle.begin.specs.Begin.{effective, allows}
@@ -36,19 +37,24 @@ pub record Begins (mode mode′ : ℕ) (Limits : ℕ → ℕ → Type 0) (r r′
 abbrev pub SameLimit : ℕ → ℕ → Type 0
 SameLimit limit limit′ = effective limit ≡ effective limit′
 
--- The secrecy rule for begins in one mode with limits that are related so: "For every list of calls .. given alike to both, .. both have by its end told exactly the same".
-abbrev pub Secrecy : (mode : ℕ) (Limits : ℕ → ℕ → Type 0) → Type 0
-Secrecy mode Limits =
+-- The secrecy rule for begins in these modes with limits that are related so: "For every list of calls .. given alike to both, .. both have by its end told exactly the same".
+abbrev pub Secrecy : (mode mode′ : ℕ) (Limits : ℕ → ℕ → Type 0) → Type 0
+Secrecy mode mode′ Limits =
     (r r′ : Runner) (inputs inputs′ : List ℕ) (allowed limit limit′ : ℕ)
-    → Begins mode mode Limits r r′ inputs inputs′ allowed limit limit′
+    → Begins mode mode′ Limits r r′ inputs inputs′ allowed limit limit′
     → AllowedAlike allowed inputs inputs′
     → (cs : List Call)
-    → tells cs (begun mode inputs allowed limit r) ≡ tells cs (begun mode inputs′ allowed limit′ r′)
+    → tells cs (begun mode inputs allowed limit r) ≡ tells cs (begun mode′ inputs′ allowed limit′ r′)
+
+-- The modes that guard: surveillance and high-water.
+abbrev pub Guarded : ℕ → Type 0
+Guarded mode = (mode ≡ 1) ⊎ (mode ≡ 2)
 
 -- The first half, the secrecy rule, "a single claim about a whole list of calls, not one for each call". "Take two runners that hold one chart,
--- whatever calls made them, and on each an accepted surveillance begin with the same allowed set, step limit and allowed inputs."
+-- whatever calls made them, and on each an accepted surveillance begin with the same allowed set, step limit and allowed inputs." 02, b: "The secrecy rule
+-- now covers high-water runs as well, both begins being of one mode."
 abbrev pub Noninterference : Type 0
-Noninterference = Secrecy 1 SameLimit
+Noninterference = (mode : ℕ) → Guarded mode → Secrecy mode mode SameLimit
 
 -- What an answer tells of a run that ended with a value; no other call replies with an ending.
 abbrev pub tellsValue : ℕ → ℕ → Told

@@ -1,12 +1,12 @@
 -- Lists of calls: "each call getting the runner that the last one handed back".
 use Prim.Native.Nat.{ℕ, _+_}
 use mathlib.Core.Path.{_≡_}
-use mathlib.Core.List.{List, [], _∷_}
+use mathlib.Core.List.{List, [], _∷_, List·Memᴰ}
 use Rattle.calls.specs.Calls.{Call, begin, answer, check}
 use Rattle.calls.specs.declared.Verdict.the-variants.{Done}
 use Rattle.runner.specs.declared.Runner.{Runner}
 use Rattle.runner.specs.State.{standingOf, newRunner}
-use Rattle.runner.specs.Outcomes.{Told, Effect, runs, keeps, begins, drops, replaces, effect, call}
+use Rattle.runner.specs.Outcomes.{Reply, Told, Effect, runs, keeps, begins, drops, replaces, effect, call}
 
 -- "Callers get a runner only as a new one or from a call".
 pub data Reached : Runner → Type 0 where
@@ -58,6 +58,15 @@ Continued P =
     → (cs : List Call)
     → AllContinue cs (begun mode inputs allowed limit r)
     → P r mode inputs allowed limit cs
+
+-- What holds of every reply after an accepted begin, while calls only continue its run: by the runner that the begin got, its mode, its allowed set and its
+-- limit.
+abbrev pub AllTold : ((r : Runner) (mode allowed limit : ℕ) → Reply → Type 0) → Type 0
+AllTold P =
+    Continued
+    (λ r mode inputs allowed limit cs. (t : Told)
+    → List·Memᴰ t (tells cs (begun mode inputs allowed limit r))
+    → P r mode allowed limit (t .reply))
 
 -- The boxes that a call asks for, and a list of them: "the true sum of the amounts asked".
 abbrev pub amountOf : Effect → ℕ

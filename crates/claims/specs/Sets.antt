@@ -1,7 +1,7 @@
 -- Claims about the marks as sets of withheld inputs (02, a), and about the sets that notices name.
 use Prim.Native.Nat.{ℕ, _≤_, _<_}
 use mathlib.Core.Path.{_≡_}
-use mathlib.Core.List.{List, [], _∷_, map, List·Memᴰ}
+use mathlib.Core.List.{List, [], _∷_, map}
 use mathlib.Core.Bool.{Bool, true, false, cond, not, _&&_, _||_}
 use lib.Dec.{eqb, ltb}
 use lib.ListN.{getD}
@@ -11,8 +11,8 @@ use Rattle.marks.specs.declared.Mode.the-variants.{Bare, Surveillance, HighWate
 use Rattle.machine.specs.Run.{Run, Ending, valued, notice, spent, Progress, going, over, run}
 use Rattle.begin.specs.Begin.{has, allows, firstMarks}
 use Rattle.runner.specs.State.{namedIn, runIn}
-use Rattle.runner.specs.Outcomes.{Reply, done, chart, running, ended, ending, wrote, refused, Told}
-use Rattle.claims.specs.Lists.{begun, tells, final, Continued}
+use Rattle.runner.specs.Outcomes.{Reply, done, chart, running, ended, ending, wrote, refused}
+use Rattle.claims.specs.Lists.{begun, final, Continued, AllTold}
 use Rattle.claims.specs.Charts.{AllSets}
 
 -- 01's rules on marked and unmarked variables. "any variable it reads is marked":
@@ -105,15 +105,6 @@ MarksWithheld =
     Continued
     (λ r mode inputs allowed limit cs. AllSets (WithheldOnly allowed (r .header .inputs)) (runIn (final cs (begun mode inputs allowed limit r))))
 
--- What holds of every reply after an accepted begin, while calls only continue its run: by the begin's mode and allowed set and the chart's number of
--- inputs.
-abbrev pub AllTold : ((mode allowed k : ℕ) → Reply → Type 0) → Type 0
-AllTold P =
-    Continued
-    (λ r mode inputs allowed limit cs. (t : Told)
-    → List·Memᴰ t (tells cs (begun mode inputs allowed limit r))
-    → P mode allowed (r .header .inputs) (t .reply))
-
 -- The set that a reply names, which is told with an ending alone.
 abbrev pub namedTold : Reply → ℕ
 namedTold done = 0
@@ -126,18 +117,19 @@ namedTold (refused number detail) = 0
 
 -- Every set told is of inputs that the begin withheld.
 abbrev pub NamesWithheld : Type 0
-NamesWithheld = AllTold (λ mode allowed k reply. WithheldOnly allowed k (namedTold reply))
+NamesWithheld = AllTold (λ r mode allowed limit reply. WithheldOnly allowed (r .header .inputs) (namedTold reply))
 
 -- A notice in a mode names an input; so it is under surveillance.
 abbrev pub NoticesName : (guarded : ℕ) → Type 0
-NoticesName guarded = AllTold (λ mode allowed k reply. mode ≡ guarded → (named steps : ℕ) → reply ≡ ending (notice named) steps → marked named ≡ true)
+NoticesName guarded =
+    AllTold (λ r mode allowed limit reply. mode ≡ guarded → (named steps : ℕ) → reply ≡ ending (notice named) steps → marked named ≡ true)
 
 abbrev pub SurveillanceNames : Type 0
 SurveillanceNames = NoticesName 1
 
 -- Nothing is named in modes that meet a condition. "All other endings, and high-water notices, carry 0": no mode but surveillance names an input.
 abbrev pub NamesNoneWhere : (ℕ → Type 0) → Type 0
-NamesNoneWhere Holds = AllTold (λ mode allowed k reply. Holds mode → namedTold reply ≡ 0)
+NamesNoneWhere Holds = AllTold (λ r mode allowed limit reply. Holds mode → namedTold reply ≡ 0)
 
 abbrev pub OthersNameNone : Type 0
 OthersNameNone = NamesNoneWhere (λ mode. mode ≡ 1 → ⊥)

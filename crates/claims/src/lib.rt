@@ -1,16 +1,17 @@
 // Claims about the calls of the runner, in specs/ and proofs/, and one function that holds them.
 ghost use Rattle.claims.specs.Demand3.{Demand3};
 ghost use Rattle.claims.specs.OneFile.{OneFile};
-ghost use Rattle.claims.specs.Runs.{RefusalChangesNothing, AdvancesJoin, NoOperationStops, CountsBoxes, LimitEnds, TellsWholeRun, WithinLimit, Cleared};
+ghost use Rattle.claims.specs.Runs.{RefusalChangesNothing, AdvancesJoin, NoOperationStops, CountsBoxes, LimitEnds, OneAdvanceEnds, TellsWholeRun, WithinLimit, Cleared};
 ghost use Rattle.claims.specs.Charts.{HeldObeys, RunsInRange, EndsInRange, LoadedIsWritten, WrittenIsLoaded};
 ghost use Rattle.claims.specs.Sets.{EmptyWhereUnmarked, SetsAreUnions, SetsOnlyName, MarksWithheld, NamesWithheld, SurveillanceNames, OthersNameNone};
+ghost use Rattle.claims.specs.HighWater.{HighWaterTells, HighWaterAnswers, HighWaterEnds};
 ghost use Rattle.claims.specs.Distinct.{RepliesDistinct};
 ghost use Rattle.claims.specs.Bounds.{AnswersAtTheLimit, RunsWithinBounds, WrittenIntoExactRoom, HeldWithinBounds, StatesWithinBounds, NamesWithinBounds};
 
 // The claims of this crate. A claim counts where a contract holds it: without this function the theorems could be deleted, and nothing would fail.
 pub fn promised()
-    ensures { λ _. ⌜ Demand3 × OneFile × RefusalChangesNothing × AdvancesJoin × NoOperationStops × CountsBoxes × LimitEnds × TellsWholeRun × WithinLimit × Cleared
+    ensures { λ _. ⌜ Demand3 × OneFile × RefusalChangesNothing × AdvancesJoin × NoOperationStops × CountsBoxes × LimitEnds × OneAdvanceEnds × TellsWholeRun × WithinLimit × Cleared
         × HeldObeys × RunsInRange × EndsInRange × LoadedIsWritten × WrittenIsLoaded × RepliesDistinct
-        × EmptyWhereUnmarked × SetsAreUnions × SetsOnlyName × MarksWithheld × NamesWithheld × SurveillanceNames × OthersNameNone
+        × EmptyWhereUnmarked × SetsAreUnions × SetsOnlyName × MarksWithheld × NamesWithheld × SurveillanceNames × OthersNameNone × HighWaterTells × HighWaterAnswers × HighWaterEnds
         × AnswersAtTheLimit × RunsWithinBounds × WrittenIntoExactRoom × HeldWithinBounds × StatesWithinBounds × NamesWithinBounds ⌝ }
 {}

@@ -10,7 +10,7 @@ use Rattle.operations.specs.Operation.{readBy, valueOfLeft, quotient, remainder
 use Rattle.marks.specs.Marks.{modeOf, union}
 use Rattle.decode.specs.Decode.{decode, boxAt, meaning}
 use Rattle.machine.specs.Act.{act}
-use Rattle.machine.specs.Run.{goesOn, settle, onward, run}
+use Rattle.machine.specs.Run.{goesOn, settle, onward, run, kept}
 use Rattle.begin.specs.Begin.{effective, firstVars, withheldMark, withheldMarks, firstMarks}
 use Rattle.calls.specs.Calls.{fileVerdict, check}
 use Rattle.runner.specs.State.{newRunner, endedWith, dropped, resumed}
@@ -39,7 +39,7 @@ unfolding modeOf union
 marks-open = tt
 
 unfoldable pub boxes-open : Unit {0}
-unfolding values-open marks-open act goesOn settle onward run
+unfolding values-open marks-open act goesOn settle onward run kept
 boxes-open = tt
 
 unfoldable pub begins-open : Unit {0}

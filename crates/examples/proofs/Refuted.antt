@@ -3,9 +3,11 @@
 use Prim.Native.Nat.{ℕ}
 use mathlib.Core.Path.{_≡_, refl, ap}
 use mathlib.Core.List.{List, [], _∷_, _++_, List·Memᴰ·head, List·Memᴰ·tail}
+use mathlib.Core.Logic.{inl}
 use mathlib.Core.Bool.{false≢true}
 use native.Mathlib.Omega.{arith}
 use lib.ListN.{replicate}
+use Rattle.format.specs.File.{refusal}
 use Rattle.machine.specs.Run.{valued, notice, spent}
 use Rattle.begin.specs.Begin.{limitForNone}
 use Rattle.calls.specs.Calls.{load, begin, advance, answer}
@@ -13,13 +15,13 @@ use Rattle.calls.proofs.Permits.{not-done}
 use Rattle.runner.specs.declared.Runner.{Runner}
 use Rattle.runner.specs.State.{newRunner}
 use Rattle.runner.specs.Outcomes.{chart, running, ended, ending, refused, Reply, Told, Outcome}
-use Rattle.claims.specs.Lists.{fresh, then, begun}
+use Rattle.claims.specs.Lists.{fresh, then, begun, asked}
 use Rattle.claims.specs.Demand3.{SameLimit}
 use Rattle.claims.proofs.Branches.{clash}
 use Rattle.examples.specs.Charts.{block, front, halt, chartB, chartC, chartD, chartE}
-use Rattle.examples.specs.Refuted.{HighWaterIsNotSecret, AnotherLimitIsTold, BareAnswersMore, SmallerLimitAnswersLess}
+use Rattle.examples.specs.Refuted.{BareIsNotSecret, AnotherModeIsTold, AnotherLimitIsTold, BareAnswersMore, SmallerLimitAnswersLess}
 use Rattle.examples.specs.Refuted.{OneMore, OneLess, AdvancesPartAtTheEnd, NoLoadDuringARun, AnotherLoadIsTold}
-use Rattle.examples.specs.Refuted.{HighWaterNamesNone, SurveillanceNamesSome}
+use Rattle.examples.specs.Refuted.{HighWaterNamesNone, SurveillanceNamesSome, HighWaterAdvancesPart, HighWaterSumEndsNothing, HighWaterCountsNoBoxes, SurveillanceTellsCounts}
 use Rattle.examples.specs.Witnesses.{justLoaded}
 use Rattle.examples.proofs.Open.{runs-open}
 use Rattle.examples.proofs.Witnesses.{on-one-file, first-withheld, answered}
@@ -32,20 +34,35 @@ first (t ∷ ts) = t .reply
 different-counts : ended 3 ≡ ended 4 → ⊥
 different-counts e = let z : _≡_ {A = ℕ} 3 4 = cc in omega arith
 
-pub high-water-is-not-secret : HighWaterIsNotSecret
+pub bare-is-not-secret : BareIsNotSecret
 unfolding runs-open first
-high-water-is-not-secret claim =
+bare-is-not-secret claim =
     let r = justLoaded chartB in
-    let told = claim r r (0 ∷ []) (4 ∷ []) 0 0 0 (on-one-file chartB [] [] 2 2 SameLimit (0 ∷ []) (4 ∷ []) 0 0 0 refl tt tt refl refl refl) in
+    let told = claim r r (0 ∷ []) (4 ∷ []) 0 0 0 (on-one-file chartB [] [] 0 0 SameLimit (0 ∷ []) (4 ∷ []) 0 0 0 refl tt tt refl refl refl) in
     different-counts (ap first (told (first-withheld 0 refl 0 4 []) (advance limitForNone ∷ [])))
+
+pub another-mode-is-told : AnotherModeIsTold
+unfolding runs-open first
+another-mode-is-told claim =
+    let r = justLoaded chartE in
+    let told = claim r r (7 ∷ []) (7 ∷ []) 0 2 2 (on-one-file chartE [] [] 1 2 SameLimit (7 ∷ []) (7 ∷ []) 0 2 2 refl tt tt refl refl refl) in
+    let e : ended 2 ≡ ended 0 = ap first (told (λ j e. refl) (advance 2 ∷ [])) in
+    let z : _≡_ {A = ℕ} 2 0 = cc in
+    omega arith
 
 pub another-limit-is-told : AnotherLimitIsTold
 unfolding runs-open first
-another-limit-is-told claim =
-    let r = justLoaded chartC in
-    let told = claim r r [] [] 0 1 2 (on-one-file chartC [] [] 1 1 OneMore [] [] 0 1 2 refl tt tt refl refl refl) in
-    let e : ended 1 ≡ running 1 = ap first (told (λ j e. refl) (advance 1 ∷ [])) in
-    clash cc
+another-limit-is-told =
+    let r = justLoaded chartC in (
+      (λ claim.
+          let told = claim r r [] [] 0 1 2 (on-one-file chartC [] [] 1 1 OneMore [] [] 0 1 2 refl tt tt refl refl refl) in
+          let e : ended 1 ≡ running 1 = ap first (told (λ j e. refl) (advance 1 ∷ [])) in
+          clash cc),
+      (λ claim.
+          let told = claim r r [] [] 0 1 2 (on-one-file chartC [] [] 2 2 OneMore [] [] 0 1 2 refl tt tt refl refl refl) in
+          let e : ended 0 ≡ refused 13 0 = ap first (told (λ j e. refl) (advance 1 ∷ [])) in
+          clash cc),
+    )
 
 pub bare-answers-more : BareAnswersMore
 unfolding runs-open
@@ -72,8 +89,36 @@ underway = begun 0 [] 0 1 (justLoaded chartC)
 pub advances-part-at-the-end : AdvancesPartAtTheEnd
 unfolding runs-open underway
 advances-part-at-the-end claim =
-    let e : refused 23 0 ≡ ended 1 = ap (λ (o : Outcome). o .told .reply) (claim underway 1 1 refl) in
+    let e : refused 23 0 ≡ ended 1 = ap (λ (o : Outcome). o .told .reply) (claim underway 1 1 ((λ e. clash cc), refl)) in
     clash cc
+
+-- Chart E with limit 2 under high-water.
+whole : Runner
+whole = begun 2 (7 ∷ []) 0 2 (justLoaded chartE)
+
+pub high-water-advances-part : HighWaterAdvancesPart
+unfolding runs-open whole
+high-water-advances-part claim =
+    let e : refused 13 0 ≡ ended 0 = ap (λ (o : Outcome). o .told .reply) (claim whole 1 1 refl) in
+    clash cc
+
+pub high-water-sum-ends-nothing : HighWaterSumEndsNothing
+unfolding runs-open asked
+high-water-sum-ends-nothing claim =
+    not-done {x = refusal 24 0} (claim (justLoaded chartE) 2 (7 ∷ []) 0 2 refl (advance 1 ∷ advance 1 ∷ []) (tt, (tt, tt)) refl (omega arith))
+
+pub high-water-counts-no-boxes : HighWaterCountsNoBoxes
+unfolding runs-open
+high-water-counts-no-boxes claim =
+    let some = claim (justLoaded chartE) 2 (7 ∷ []) 0 2 refl refl 2 0 .1 refl .0 in
+    absurd (omega arith)
+
+pub surveillance-tells-counts : SurveillanceTellsCounts
+unfolding runs-open
+surveillance-tells-counts claim =
+    let t : Told = record { reply = ended 2; buffer = [] } in
+    let none = claim (justLoaded chartE) 1 (7 ∷ []) 0 0 refl (advance 2 ∷ []) (tt, tt) t (List·Memᴰ·head refl) refl in
+    absurd (omega arith)
 
 pub no-load-during-a-run : NoLoadDuringARun
 unfolding runs-open underway
@@ -92,15 +137,15 @@ pub another-load-is-told : AnotherLoadIsTold
 unfolding runs-open first halting
 another-load-is-told claim =
     let past = begin 1 (7 ∷ []) 0 0 ∷ load halting ∷ [] in
-    let begins = claim newRunner (justLoaded chartE) chartC [] past fresh (then fresh (load chartE)) refl refl tt (tt, (not-done, tt)) in
+    let begins = claim newRunner (justLoaded chartE) chartC [] past fresh (then fresh (load chartE)) refl refl tt (tt, (not-done, tt)) 1 (inl refl) in
     let e : running 1 ≡ ended 1 = ap first (begins [] [] 0 (λ j e. refl) refl refl (advance 1 ∷ [])) in
     clash cc
 
 pub high-water-names-none : HighWaterNamesNone
 unfolding runs-open
 high-water-names-none claim =
-    let t : Told = record { reply = ending (notice 0) 2; buffer = [] } in
-    let e = claim (justLoaded chartD) 2 (7 ∷ []) 0 0 refl (advance 2 ∷ answer ∷ []) (tt, (tt, tt)) t (List·Memᴰ·tail (List·Memᴰ·head refl)) refl 0 2 refl in
+    let t : Told = record { reply = ending (notice 0) 0; buffer = [] } in
+    let e = claim (justLoaded chartD) 2 (7 ∷ []) 0 2 refl (advance 2 ∷ answer ∷ []) (tt, (tt, tt)) t (List·Memᴰ·tail (List·Memᴰ·head refl)) refl 0 0 refl in
     false≢true e
 
 pub surveillance-names-some : SurveillanceNamesSome

@@ -14,8 +14,8 @@ use Rattle.claims.specs.Demand3.{AllowedAlike, Begins, SameLimit, tellsValue, S
 use Rattle.claims.specs.OneFile.{afterLoad, NoOtherChart}
 use Rattle.claims.proofs.OneFile.{reached-final, one-file-held}
 use Rattle.claims.proofs.Inputs.{none-has}
-use Rattle.examples.specs.Charts.{chartA, chartE}
-use Rattle.examples.specs.Witnesses.{justLoaded, runBare, SecrecyIsMet, NoticeIsTold, AnsweringIsMet}
+use Rattle.examples.specs.Charts.{chartA, chartB, chartE}
+use Rattle.examples.specs.Witnesses.{justLoaded, runBare, SecrecyIsMet, NoticeIsTold, CountsAreHidden, AdvancesAreWhole, AnsweringIsMet}
 use Rattle.examples.proofs.Open.{runs-open}
 
 -- Two begins on runners that have loaded one file.
@@ -67,10 +67,27 @@ notice-is-told = (
   refl,
 )
 
+pub counts-are-hidden : CountsAreHidden
+unfolding runs-open
+counts-are-hidden = (
+  on-one-file chartB [] (runBare (1 ∷ [])) 2 2 SameLimit (0 ∷ []) (4 ∷ []) 0 0 4096 refl tt (tt, (tt, tt)) refl refl refl,
+  none-allowed (0 ∷ []) (4 ∷ []),
+  refl,
+  refl,
+  refl,
+  refl,
+)
+
+pub advances-are-whole : AdvancesAreWhole
+unfolding runs-open
+advances-are-whole = (refl, refl, refl)
+
 pub answering-is-met : AnsweringIsMet
 unfolding runs-open
 answering-is-met = (
   on-one-file chartE [] (runBare (3 ∷ [])) 2 1 SameLimit (7 ∷ []) (7 ∷ []) 0 2 2 refl tt (tt, (tt, tt)) refl refl refl,
+  (tt, (tt, (tt, tt))),
+  refl,
   answered (begun 2 (7 ∷ []) 0 2 (justLoaded chartE)) 5 2 refl,
   (tt, (not-done, (not-done, (tt, (tt, (tt, (not-done, (tt, tt)))))))),
   refl,

@@ -5,14 +5,19 @@ use mathlib.Core.Bool.{true, false}
 use Rattle.begin.specs.Begin.{effective}
 use Rattle.runner.specs.State.{isRunning}
 use Rattle.claims.specs.Demand3.{SameLimit, Secrecy, AnswersAs}
-use Rattle.claims.specs.Runs.{AdvancesJoinWhere}
+use Rattle.claims.specs.Runs.{AdvancesJoinWhere, NotEndedAfter, NotHighWater, CountsBoxesWhere, LimitEndsWhere}
 use Rattle.claims.specs.Charts.{AllKeepChart, WrittenLoadsWhere}
 use Rattle.claims.specs.OneFile.{OneFileWhere}
 use Rattle.claims.specs.Sets.{NoticesName, NamesNoneWhere}
+use Rattle.claims.specs.HighWater.{CountsValuesOnlyIn}
 
--- "High-water step counts follow withheld inputs, as 000 shows": in chart B, 3 steps for input 0 and 4 for input 4.
-abbrev pub HighWaterIsNotSecret : Type 0
-HighWaterIsNotSecret = Secrecy 2 SameLimit → ⊥
+-- Bare guards nothing: in chart B, 3 steps for input 0 and 4 for input 4.
+abbrev pub BareIsNotSecret : Type 0
+BareIsNotSecret = Secrecy 0 0 SameLimit → ⊥
+
+-- "both begins being of one mode": chart E with limit 2 tells "ended" with 2 steps under surveillance and with 0 under high-water.
+abbrev pub AnotherModeIsTold : Type 0
+AnotherModeIsTold = Secrecy 1 2 SameLimit → ⊥
 
 -- A second limit of one more, and of one less.
 abbrev pub OneMore : ℕ → ℕ → Type 0
@@ -21,9 +26,9 @@ OneMore limit limit′ = effective limit′ ≡ effective limit + 1
 abbrev pub OneLess : ℕ → ℕ → Type 0
 OneLess limit limit′ = effective limit ≡ effective limit′ + 1
 
--- Chart C with limits 1 and 2: after one box the one run has ended.
+-- Chart C with limits 1 and 2: after one box the one run has ended. In high-water mode the other is not advanced by one box.
 abbrev pub AnotherLimitIsTold : Type 0
-AnotherLimitIsTold = Secrecy 1 OneMore → ⊥
+AnotherLimitIsTold = (Secrecy 1 1 OneMore → ⊥) × (Secrecy 2 2 OneMore → ⊥)
 
 -- Chart D, "31 is variable 0 minus variable 0": bare tells value 0, surveillance a notice.
 abbrev pub BareAnswersMore : Type 0
@@ -35,7 +40,22 @@ SmallerLimitAnswersLess = AnswersAs 2 OneLess → ⊥
 
 -- "23: no run is under way (advance, abandon)": a second advance past the end is refused, where the one advance tells "ended".
 abbrev pub AdvancesPartAtTheEnd : Type 0
-AdvancesPartAtTheEnd = AdvancesJoinWhere (λ r m. isRunning r ≡ true) → ⊥
+AdvancesPartAtTheEnd = AdvancesJoinWhere (λ r m. NotHighWater (r .mode) × (isRunning r ≡ true)) → ⊥
+
+-- 02, b, exempts high-water from three laws: joining advances, advances that add up to the limit, and the count that an advance tells. Chart E with limit 2 in this mode:
+-- two advances by 1 are refused, and one by 2 tells "ended" with 0 steps.
+abbrev pub HighWaterAdvancesPart : Type 0
+HighWaterAdvancesPart = AdvancesJoinWhere NotEndedAfter → ⊥
+
+abbrev pub HighWaterSumEndsNothing : Type 0
+HighWaterSumEndsNothing = LimitEndsWhere (λ mode. mode ≡ 2) → ⊥
+
+abbrev pub HighWaterCountsNoBoxes : Type 0
+HighWaterCountsNoBoxes = CountsBoxesWhere (λ mode. mode ≡ 2) → ⊥
+
+-- And chart E under surveillance tells 2 steps with "ended".
+abbrev pub SurveillanceTellsCounts : Type 0
+SurveillanceTellsCounts = CountsValuesOnlyIn 1 → ⊥
 
 -- "22: a run is under way (load, begin)": that the runner which wrote rests is not enough.
 abbrev pub NoLoadDuringARun : Type 0

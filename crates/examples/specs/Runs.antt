@@ -1,8 +1,10 @@
 -- The cases that document 01 marks (P), in one table: runs from files, through the calls; results of operations; and E's checks. Then the inputs that
--- notices name (02, a).
+-- notices name (02, a), and what high-water runs tell (02, b).
 use Prim.Native.Nat.{ℕ, _^_, _<_}
 use mathlib.Core.Path.{_≡_}
 use mathlib.Core.List.{List, [], _∷_, map}
+use mathlib.Core.Bool.{cond}
+use lib.Dec.{eqb}
 use lib.ListN.{length, replicate}
 use Rattle.format.specs.Block.{checksum}
 use Rattle.format.specs.File.{headerOf}
@@ -13,7 +15,7 @@ use Rattle.calls.specs.Calls.{load, begin, advance, answer}
 use Rattle.runner.specs.State.{newRunner}
 use Rattle.runner.specs.Outcomes.{Reply, done, chart, ended, ending, Told}
 use Rattle.claims.specs.Lists.{tells}
-use Rattle.examples.specs.Charts.{chartA, chartB, chartD, headE, boxesE, chartE, chartPair, chartChain, chartTwice, chartSum}
+use Rattle.examples.specs.Charts.{chartA, chartB, chartC, chartD, headE, boxesE, chartE, chartPair, chartChain, chartTwice, chartSum}
 
 -- A case: a chart's file, what begin is given, and the ending with its steps; an operation, its operands and its result; or a block and its check.
 pub data Case : Type 0 where
@@ -35,13 +37,6 @@ gives (runs file mode inputs allowed limit e steps) =
 gives (operates op left right result) = number (valueOf op 0 (readBy op left right))
 gives (checks block check) = number (checksum block)
 
--- What they are to give.
-unfoldable pub expected : Case → Given
-expected (runs file mode inputs allowed limit e steps) =
-    replies (chart (headerOf file .inputs) (headerOf file .boxes) ∷ done ∷ ended steps ∷ ending e steps ∷ [])
-expected (operates op left right result) = number result
-expected (checks block check) = number check
-
 -- "mode (0 bare, 1 surveillance, 2 high-water)".
 abbrev bare : ℕ
 bare = 0
@@ -52,18 +47,30 @@ surveillance = 1
 abbrev highWater : ℕ
 highWater = 2
 
--- The cases, where x is the input of D and of E, of which 01 says nothing. The sets that notices carry are 02's, a.
+-- The steps that an advance is to tell with "ended". 02, b: "Advance in this mode tells only "ended" with 0 steps", high-water.
+abbrev stepsAtTheEnd : (mode steps : ℕ) → ℕ
+stepsAtTheEnd mode steps = cond (eqb mode highWater) 0 steps
+
+-- What they are to give.
+unfoldable pub expected : Case → Given
+expected (runs file mode inputs allowed limit e steps) =
+    replies (chart (headerOf file .inputs) (headerOf file .boxes) ∷ done ∷ ended (stepsAtTheEnd mode steps) ∷ ending e steps ∷ [])
+expected (operates op left right result) = number result
+expected (checks block check) = number check
+
+-- The cases, where x is the input of D and of E, of which 01 says nothing. The sets that notices carry are 02's, a; and by 02, b, "01's charts .. change
+-- accordingly": a high-water notice tells 0 steps.
 unfoldable pub markedCases : ℕ → List Case
 markedCases x =
     -- "A .. Inputs 7 and 9, allowed 2. (P) Surveillance: value 9, 3 steps. (P) High-water: notice, 3."
     runs chartA surveillance (7 ∷ 9 ∷ []) 2 0 (valued 9) 3
-    ∷ runs chartA highWater (7 ∷ 9 ∷ []) 2 0 (notice 0) 3
+    ∷ runs chartA highWater (7 ∷ 9 ∷ []) 2 0 (notice 0) 0
     -- "B .. Allowed 0. (P) Surveillance, inputs 0 and 4: notice, 1. (P) High-water: input 0 notice 3, input 4 notice 4. (P) Bare, input 4:
     -- limit 3 spent 3, limit 4 value 1."
     ∷ runs chartB surveillance (0 ∷ []) 0 0 (notice 1) 1
     ∷ runs chartB surveillance (4 ∷ []) 0 0 (notice 1) 1
-    ∷ runs chartB highWater (0 ∷ []) 0 0 (notice 0) 3
-    ∷ runs chartB highWater (4 ∷ []) 0 0 (notice 0) 4
+    ∷ runs chartB highWater (0 ∷ []) 0 0 (notice 0) 0
+    ∷ runs chartB highWater (4 ∷ []) 0 0 (notice 0) 0
     ∷ runs chartB bare (4 ∷ []) 0 3 spent 3
     ∷ runs chartB bare (4 ∷ []) 0 4 (valued 1) 4
     -- "D .. (P) Surveillance, allowed 0: notice, 2; allowed 1: value 0, 2."
@@ -93,7 +100,7 @@ namingCases =
     -- inputs 0 and 2, both withheld; input 0 allowed; high-water, which halts with the counter's mark
     ∷ runs chartPair surveillance (1 ∷ 2 ∷ 3 ∷ []) 0 0 (notice 5) 1
     ∷ runs chartPair surveillance (1 ∷ 2 ∷ 3 ∷ []) 1 0 (notice 4) 1
-    ∷ runs chartPair highWater (1 ∷ 2 ∷ 3 ∷ []) 0 0 (notice 0) 2
+    ∷ runs chartPair highWater (1 ∷ 2 ∷ 3 ∷ []) 0 0 (notice 0) 0
     -- a sum of inputs 0 and 15
     ∷ runs chartSum surveillance (replicate 16 7) 0 0 (notice 32769) 2
     -- a chain of copies of input 1; one variable read twice; input 0 overwritten by input 1
@@ -104,3 +111,28 @@ namingCases =
 
 abbrev pub NamingCases : Type 0
 NamingCases = (length namingCases ≡ 8) × (map gives namingCases ≡ map expected namingCases)
+
+-- What high-water runs tell (02, b): a value with its count, and else "notice, steps 0, inputs 0".
+unfoldable pub hiddenCases : List Case
+hiddenCases =
+    -- charts A and E with a value, of an allowed input and of none
+    runs chartA highWater (7 ∷ 9 ∷ []) 3 0 (valued 9) 3
+    ∷ runs chartE highWater (7 ∷ []) 0 0 (valued 5) 2
+    -- E at its limit, and with one less: spent elsewhere
+    ∷ runs chartE highWater (7 ∷ []) 0 2 (valued 5) 2
+    ∷ runs chartE highWater (7 ∷ []) 0 1 (notice 0) 0
+    ∷ runs chartE surveillance (7 ∷ []) 0 1 spent 1
+    -- C, which halts nowhere, at limits 1 and 3
+    ∷ runs chartC highWater [] 0 1 (notice 0) 0
+    ∷ runs chartC highWater [] 0 3 (notice 0) 0
+    ∷ runs chartC surveillance [] 0 3 spent 3
+    -- B at limit 3: its notice comes first with input 0, and with input 4 the limit
+    ∷ runs chartB highWater (0 ∷ []) 0 3 (notice 0) 0
+    ∷ runs chartB highWater (4 ∷ []) 0 3 (notice 0) 0
+    -- B with its input allowed: no notice, and the counts are the value's own
+    ∷ runs chartB highWater (0 ∷ []) 1 0 (valued 1) 3
+    ∷ runs chartB highWater (4 ∷ []) 1 0 (valued 1) 4
+    ∷ []
+
+abbrev pub HiddenCases : Type 0
+HiddenCases = (length hiddenCases ≡ 12) × (map gives hiddenCases ≡ map expected hiddenCases)

@@ -1,16 +1,19 @@
--- Instances of demand 3 that meet all that it supposes, and what they are told: what it supposes can be met, and it speaks of something.
-use Prim.Native.Nat.{ℕ}
+-- Instances of demand 3 that meet all that it supposes, and what they are told: what it supposes can be met, and it speaks of something. And what advances of a high-water
+-- run are told.
+use Prim.Native.Nat.{ℕ, _-_}
 use mathlib.Core.Path.{_≡_}
 use mathlib.Core.List.{List, [], _∷_, map}
-use Rattle.machine.specs.Run.{valued, notice}
+use Rattle.chart.specs.Chart.{tableOf}
+use Rattle.machine.specs.Run.{valued, notice, going, over, run}
+use Rattle.begin.specs.Begin.{effective}
 use Rattle.calls.specs.Calls.{Call, load, begin, advance, answer, abandon, writeBack}
 use Rattle.runner.specs.declared.Runner.{Runner}
-use Rattle.runner.specs.State.{newRunner}
-use Rattle.runner.specs.Outcomes.{Reply, running, ended, ending, refused}
+use Rattle.runner.specs.State.{newRunner, runIn}
+use Rattle.runner.specs.Outcomes.{Reply, done, running, ended, ending, refused}
 use Rattle.claims.specs.Lists.{begun, tells, AllContinue}
 use Rattle.claims.specs.Demand3.{AllowedAlike, Begins, SameLimit, SomeAnswer}
 use Rattle.claims.specs.OneFile.{afterLoad}
-use Rattle.examples.specs.Charts.{chartA, chartE}
+use Rattle.examples.specs.Charts.{chartA, chartB, chartE}
 
 -- "their pasts may differ": a runner that has only loaded a file, and one that has run it bare since, to the ending.
 abbrev pub justLoaded : List ℕ → Runner
@@ -40,14 +43,49 @@ NoticeIsTold =
     × AllowedAlike 0 (7 ∷ 9 ∷ []) (8 ∷ 3 ∷ [])
     × Replies (advance 4096 ∷ answer ∷ []) (begun 1 (7 ∷ 9 ∷ []) 0 0 (justLoaded chartA)) (ended 3 ∷ ending (notice 2) 3 ∷ [])
 
--- The second half: chart E with its input withheld and limit 2. High-water tells value 5 in 2 steps; under surveillance two advances add up to
--- the limit, in a list of calls of every kind, "advance, answer, write back and refused calls".
+-- And in high-water mode: chart B with its input withheld, 0 on the one side and 4 on the other. Inside, the runs come to their notices in 3 boxes and in 4; what is
+-- told is the same on both sides, a refused advance included, and has no count.
+abbrev pub CountsAreHidden : Type 0
+CountsAreHidden =
+    let start = begun 2 (0 ∷ []) 0 0 (justLoaded chartB) in
+    let start′ = begun 2 (4 ∷ []) 0 4096 (loadedAndRun chartB (1 ∷ [])) in
+    Begins 2 2 SameLimit (justLoaded chartB) (loadedAndRun chartB (1 ∷ [])) (0 ∷ []) (4 ∷ []) 0 0 4096
+    × AllowedAlike 0 (0 ∷ []) (4 ∷ [])
+    × (run (tableOf chartB) 9 (going (runIn start)) ≡ over (notice 0) 3)
+    × (run (tableOf chartB) 9 (going (runIn start′)) ≡ over (notice 0) 4)
+    × Replies (advance 4095 ∷ advance 4096 ∷ answer ∷ []) start (refused 13 0 ∷ ended 0 ∷ ending (notice 0) 0 ∷ [])
+    × Replies (advance 4095 ∷ advance 4096 ∷ answer ∷ []) start′ (refused 13 0 ∷ ended 0 ∷ ending (notice 0) 0 ∷ [])
+
+-- An advance in high-water mode: chart E with limit 2 and with limit 0, which means 4,096. One by less than the limit is refused, one by the limit ends the run, and
+-- after the end each is refused by 23.
+abbrev pub advancesAbout : (limit : ℕ) → List Call
+advancesAbout limit = advance 0 ∷ advance (limit - 1) ∷ answer ∷ advance limit ∷ advance (limit - 1) ∷ advance limit ∷ answer ∷ []
+
+abbrev pub EndsInOneAdvance : (limit : ℕ) → Type 0
+EndsInOneAdvance limit =
+    Replies (advancesAbout (effective limit)) (begun 2 (7 ∷ []) 0 limit (justLoaded chartE))
+    (refused 13 0 ∷ refused 13 0 ∷ refused 24 0 ∷ ended 0 ∷ refused 23 0 ∷ refused 23 0 ∷ ending (valued 5) 2 ∷ [])
+
+-- And one that was refused may be abandoned.
+abbrev pub AdvancesAreWhole : Type 0
+AdvancesAreWhole =
+    EndsInOneAdvance 2
+    × EndsInOneAdvance 0
+    × Replies (advance 1 ∷ abandon ∷ advance 2 ∷ []) (begun 2 (7 ∷ []) 0 2 (justLoaded chartE)) (refused 13 0 ∷ done ∷ refused 23 0 ∷ [])
+
+-- The second half: chart E with its input withheld and limit 2. High-water tells value 5 in 2 steps, where an advance by less was refused; under surveillance two
+-- advances add up to the limit, in a list of calls of every kind, "advance, answer, write back and refused calls".
+abbrev pub refusedFirst : List Call
+refusedFirst = advance 1 ∷ advance 2 ∷ answer ∷ []
+
 abbrev pub everyKind : List Call
 everyKind = advance 1 ∷ load chartA ∷ begin 1 [] 0 0 ∷ writeBack [] ∷ answer ∷ advance 1 ∷ abandon ∷ answer ∷ []
 
 abbrev pub AnsweringIsMet : Type 0
 AnsweringIsMet =
     Begins 2 1 SameLimit (justLoaded chartE) (loadedAndRun chartE (3 ∷ [])) (7 ∷ []) (7 ∷ []) 0 2 2
+    × AllContinue refusedFirst (begun 2 (7 ∷ []) 0 2 (justLoaded chartE))
+    × Replies refusedFirst (begun 2 (7 ∷ []) 0 2 (justLoaded chartE)) (refused 13 0 ∷ ended 0 ∷ ending (valued 5) 2 ∷ [])
     × SomeAnswer (begun 2 (7 ∷ []) 0 2 (justLoaded chartE)) 5 2
     × AllContinue everyKind (begun 1 (7 ∷ []) 0 2 (loadedAndRun chartE (3 ∷ [])))
     × Replies everyKind (begun 1 (7 ∷ []) 0 2 (loadedAndRun chartE (3 ∷ [])))

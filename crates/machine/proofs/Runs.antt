@@ -1,20 +1,20 @@
 -- Laws of `run`: boxes add up, what is over stays as it is, how a loop that counts down takes the first box and ends. What holds where a box goes on, or ends the
--- run with a notice or spent, holds of what it comes to; and what each box keeps, boxes keep.
+-- run with a notice or spent, holds of what it comes to; what each box keeps, boxes keep, the mode and the limit among it. And laws of `kept`.
 -- Assumes nothing.
 use Prim.Native.Nat.{ℕ, zero, suc, _+_, _-_, _<_, _≤_}
-use mathlib.Core.Path.{_≡_, refl, ap, _∙_}
+use mathlib.Core.Path.{_≡_, refl, ap, sym, _∙_}
 use mathlib.Core.List.{List}
-use mathlib.Core.Bool.{Bool, true, false, cond}
+use mathlib.Core.Bool.{Bool, true, false, cond, true≢false}
 use native.Mathlib.Nat.{suc-add, zero-add}
 use native.Mathlib.Omega.{arith}
 use lib.Dec.{leb}
 use borrow.Author.Tests.{leb-false}
-use Rattle.marks.specs.Marks.{marked, namedBy}
+use Rattle.marks.specs.Marks.{marked, namedBy, hides}
 use Rattle.marks.specs.declared.Mode.{Mode}
 use Rattle.machine.specs.Act.{noticeOr}
-use Rattle.machine.specs.Run.{Run, Ending, notice, spent, Progress, going, over, goesOn, settle, step, onward, run}
+use Rattle.machine.specs.Run.{Run, Ending, valued, notice, spent, Progress, going, over, goesOn, settle, step, onward, run, kept}
 use Rattle.machine.specs.declared.Act.{Act}
-use Rattle.machine.specs.declared.Act.the-variants.{Notice}
+use Rattle.machine.specs.declared.Act.the-variants.{Store, Go, Value, Notice}
 
 module _ (table : List ℕ) where
   pub run-add : (m n : ℕ) (p : Progress) → run table (m + n) p ≡ run table n (run table m p)
@@ -66,6 +66,40 @@ module _ (Good : Progress → Type 0) where
       on true e = ends e
       on false e = goes e
 
+-- A run under way keeps its mode and its limit.
+abbrev pub AsBegun : Run → Progress → Type 0
+AsBegun first (going q) = (q .mode ≡ first .mode) × (q .limit ≡ first .limit)
+AsBegun first (over e steps) = Unit {0}
+
+settle-as-begun : (first : Run) (a : Act) (q : Run) → AsBegun first (going q) → AsBegun first (settle a q)
+unfolding settle
+settle-as-begun first (Store target value mark next) q h = goes-by (AsBegun first) _ tt (λ l. h)
+settle-as-begun first (Go next counter) q h = goes-by (AsBegun first) _ tt (λ l. h)
+settle-as-begun first (Value v) q h = tt
+settle-as-begun first (Notice named) q h = tt
+
+pub run-as-begun : (table : List ℕ) (m : ℕ) (q : Run) → AsBegun q (run table m (going q))
+run-as-begun table m q = run-keeps table (AsBegun q) (λ x h. settle-as-begun q _ x h) m (going q) (refl, refl)
+
 -- A run that is over after n boxes is over so after more.
 pub over-twice : (table : List ℕ) (p : Progress) (e : Ending) (n steps m : ℕ) → run table n p ≡ over e steps → run table (n + m) p ≡ over e steps
 over-twice table p e n steps m h = run-add table n m p ∙ ap (run table m) h ∙ over-still table m e steps
+
+-- What is kept is what the run has come to, or a notice that names nothing in no steps, where counts are hidden.
+pub kept-by : (Good : Progress → Type 0) (m : Mode) (p : Progress) → Good p → (hides m ≡ true → Good (over (notice 0) 0)) → Good (kept m p)
+unfolding kept
+kept-by Good m (going q) h n = h
+kept-by Good m (over (valued v) steps) h n = h
+kept-by Good m (over (notice named) steps) h n = on (hides m) refl
+  where
+    on : (b : Bool) → hides m ≡ b → Good (cond b (over (notice 0) 0) (over (notice named) steps))
+    on true e = n e
+    on false e = h
+kept-by Good m (over spent steps) h n = on (hides m) refl
+  where
+    on : (b : Bool) → hides m ≡ b → Good (cond b (over (notice 0) 0) (over spent steps))
+    on true e = n e
+    on false e = h
+
+pub kept-all : (m : Mode) → hides m ≡ false → (p : Progress) → kept m p ≡ p
+kept-all m e p = kept-by (λ x. x ≡ p) m p refl (λ h. absurd (true≢false (sym h ∙ e)))

@@ -5,7 +5,8 @@ use mathlib.Core.Bool.{cond}
 use lib.Dec.{leb}
 use lib.ListN.{set}
 use Rattle.decode.specs.Decode.{boxAt, meaning}
-use Rattle.marks.specs.Marks.{modeOf}
+use Rattle.marks.specs.Marks.{modeOf, hides}
+use Rattle.marks.specs.declared.Mode.{Mode}
 use Rattle.machine.specs.Act.{act}
 use Rattle.machine.specs.declared.Act.{Act}
 use Rattle.machine.specs.declared.Act.the-variants.{Store, Go, Value, Notice}
@@ -63,3 +64,10 @@ onward table (over e steps) = over e steps
 unfoldable pub run : (table : List ℕ) → ℕ → Progress → Progress
 run table zero p = p
 run table (suc m) p = run table m (onward table p)
+
+-- What is kept of what a run has come to. 02, b: "In high-water mode a notice and a spent run now end alike: notice, steps 0, inputs 0."
+unfoldable pub kept : Mode → Progress → Progress
+kept mode (going q) = going q
+kept mode (over (valued v) steps) = over (valued v) steps
+kept mode (over (notice named) steps) = cond (hides mode) (over (notice 0) 0) (over (notice named) steps)
+kept mode (over spent steps) = cond (hides mode) (over (notice 0) 0) (over spent steps)

@@ -1,7 +1,8 @@
--- The rules of the marks in each mode. A mark is a set of withheld inputs, a number whose bit j is input j; these rules see no value.
+-- The modes: the rules of the marks in each of them, and whether it hides its counts. A mark is a set of withheld inputs, a number whose bit j is input j; these
+-- rules see no value.
 use Prim.Native.Nat.{ℕ}
 use mathlib.Core.List.{List, [], _∷_}
-use mathlib.Core.Bool.{Bool, cond, not}
+use mathlib.Core.Bool.{Bool, true, false, cond, not}
 use lib.Bits.{bitOr}
 use lib.Dec.{eqb}
 use Rattle.marks.specs.declared.Mode.{Mode}
@@ -50,3 +51,7 @@ haltNotice mode counter output = byMode mode 0 output (bitOr counter output)
 -- decision, or of variable 31 at halt. All other endings, and high-water notices, carry 0."
 abbrev pub namedBy : Mode → (marks : ℕ) → ℕ
 namedBy mode marks = byMode mode 0 marks 0
+
+-- Whether a mode hides its counts, all but that of a value. 02, b: "High-water notices must not count."
+abbrev pub hides : Mode → Bool
+hides mode = byMode mode false false true

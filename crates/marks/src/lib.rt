@@ -1,8 +1,8 @@
-// The marks: what an assignment leaves on its target, what a decision and a halt do, by the mode. A mark is a set of withheld inputs, a number whose bit j is input j;
-// 0 is no mark.
+// The modes: what an assignment leaves on its target, what a decision and a halt do, and whether counts are hidden. A mark is a set of withheld inputs, a number
+// whose bit j is input j; 0 is no mark.
 ghost use mathlib.Core.Path.{_≡_};
 ghost use Rattle.operations.specs.Operation.{readBy};
-ghost use Rattle.marks.specs.Marks.{modeOf, union, byMode, targetMark, decisionNotice, counterMark, haltNotice, namedBy};
+ghost use Rattle.marks.specs.Marks.{modeOf, union, byMode, targetMark, decisionNotice, counterMark, haltNotice, namedBy, hides};
 
 pub enum Mode {
     Bare,
@@ -76,4 +76,15 @@ pub fn named_by(mode: Mode, marks: u16) -> u16
     ensures { λ m. ⌜ m ≡ namedBy mode marks ⌝ }
 {
     by_mode(mode, 0, marks, 0)
+}
+
+// Whether the mode hides its counts, all but that of a value.
+pub fn hides(mode: Mode) -> bool
+    ensures { λ b. ⌜ b ≡ hides mode ⌝ }
+{
+    match mode {
+        Mode::Bare => false,
+        Mode::Surveillance => false,
+        Mode::HighWater => true,
+    }
 }

@@ -1,15 +1,13 @@
--- The claims about lines: an accepted one prints an ending, by `limit-ends`; and a begin starts one run on any runner that holds the chart.
+-- The claims about lines: an accepted one prints an ending, by `one-advance-ends`; and a begin starts one run on any runner that holds the chart.
 -- Assumes nothing.
 use Prim.Native.Nat.{_-_}
 use mathlib.Core.Path.{_≡_, refl, ap, _∙_}
-use mathlib.Core.List.{[], _∷_}
 use mathlib.Core.Bool.{false, cond}
-use native.Mathlib.Omega.{arith}
 use lib.Dec.{eqb}
 use Rattle.boxes.specs.Bytes.{at, part}
 use Rattle.chart.specs.Chart.{Chart}
 use Rattle.begin.proofs.Begins.{effective-fits}
-use Rattle.calls.specs.Calls.{advance, answer, check}
+use Rattle.calls.specs.Calls.{answer, check}
 use Rattle.calls.specs.declared.Verdict.{Verdict}
 use Rattle.calls.specs.declared.Verdict.the-variants.{Done, Refused}
 use Rattle.line.specs.Parsing.{parse}
@@ -18,17 +16,16 @@ use Rattle.texts.specs.Printing.{refusedText}
 use Rattle.runner.specs.declared.Runner.{Runner}
 use Rattle.runner.specs.State.{chartIn, isRunning, standingOf}
 use Rattle.runner.specs.Outcomes.{after, says, outcomeBy, call}
-use Rattle.claims.specs.Lists.{final, asked}
-use Rattle.claims.proofs.RunLaws.{limit-ends}
+use Rattle.claims.specs.Lists.{final}
+use Rattle.claims.proofs.RunLaws.{one-advance-ends}
 use Rattle.claims.proofs.Secrecy.{begin-permits, starts-same}
 use Rattle.reply.specs.Reply.{replyText, accepted, beginOf, runOut, answered, respond}
 use Rattle.program_claims.specs.LineClaims.{LinesEnd, LinesApart}
 
 pub lines-end : LinesEnd
-unfolding final asked
+unfolding final
 lines-end r ns a =
-    let enough = effective-fits (at (ns .numbers) 2) (begin-permits _ (part (ns .numbers) 3 (ns .count - 3)) _ _ r a .fits) in
-    limit-ends r _ _ _ _ a (advance 65535 ∷ []) (tt, tt) (omega (arith, enough))
+    one-advance-ends r _ _ _ _ a 65535 (effective-fits (at (ns .numbers) 2) (begin-permits _ (part (ns .numbers) 3 (ns .count - 3)) _ _ r a .fits))
 
 module _ (r r′ : Runner) (same : chartIn r ≡ chartIn r′) (o : isRunning r ≡ false) (o′ : isRunning r′ ≡ false) where
   checks-same : (ns : Numbers) → check (beginOf ns) (standingOf r) ≡ check (beginOf ns) (standingOf r′)

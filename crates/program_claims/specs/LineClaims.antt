@@ -11,7 +11,7 @@ use Rattle.runner.specs.Outcomes.{call}
 use Rattle.claims.specs.Lists.{Accepted}
 use Rattle.reply.specs.Reply.{beginOf, runOut, respond}
 
--- A line whose begin is accepted prints an ending, since advances that add up to the limit always end a run.
+-- A line whose begin is accepted prints an ending, in every mode: the program advances by 65,535, which no limit exceeds, and one advance by the limit or more ends a run.
 abbrev pub LinesEnd : Type 0
 LinesEnd = (r : Runner) (ns : Numbers) → Accepted (beginOf ns) r → Accepted answer (runOut (call (beginOf ns) r .next))
 

@@ -2,24 +2,30 @@
 -- leaves and tells where the loop is left. Assumes nothing.
 use Prim.Native.Nat.{ℕ, _+_, _-_, _^_, _<_, _≤_}
 use mathlib.Core.Path.{_≡_, refl, ap, sym, _∙_, subst}
-use mathlib.Core.Logic.{_⊎_, inl, inr}
+use mathlib.Core.Logic.{_⊎_, inr, ⊎-elim}
 use mathlib.Core.List.{List, []}
-use mathlib.Core.Bool.{Bool, true, false, cond}
+use mathlib.Core.Bool.{Bool, false, cond}
 use native.Mathlib.Omega.{arith}
 use lib.Dec.{eqb}
 use borrow.Author.Tests.{le-leb, lt-leb}
 use Rattle.decode.specs.Decode.{boxAt, meaning}
 use Rattle.decode.specs.declared.FlowBox.{FlowBox}
-use Rattle.marks.specs.Marks.{modeOf}
+use Rattle.format.specs.declared.Refusal.{Refusal}
+use Rattle.marks.specs.Marks.{modeOf, hides}
 use Rattle.marks.specs.declared.Mode.{Mode}
+use Rattle.marks.specs.declared.Mode.the-variants.{Bare, Surveillance, HighWater}
 use Rattle.machine.specs.Act.{act}
-use Rattle.machine.specs.Run.{Run, Ending, valued, notice, spent, Progress, going, over, moved, goesOn, settle, step, run}
+use Rattle.machine.specs.Run.{Run, Ending, valued, notice, spent, Progress, going, over, moved, goesOn, settle, step, run, kept}
 use Rattle.machine.specs.declared.Act.{Act}
-use Rattle.machine.proofs.Runs.{over-still, run-one}
+use Rattle.machine.proofs.Runs.{over-still, run-one, kept-by}
+use Rattle.calls.specs.Calls.{check}
 use Rattle.calls.specs.Calls as calls
+use Rattle.calls.specs.declared.Verdict.{Verdict}
+use Rattle.calls.specs.declared.Verdict.the-variants.{Done, Refused}
 use Rattle.runner.specs.declared.Runner.{Runner}
 use Rattle.runner.specs.declared.AdvanceTold.{AdvanceTold}
-use Rattle.runner.specs.State.{chartIn, isRunning, stateOf, valueIn, namedIn, runnerOf, runIn, withRun, noRun, endedWith, resumed}
+use Rattle.runner.specs.declared.Remains.{Remains}
+use Rattle.runner.specs.State.{chartIn, standingOf, stateOf, valueIn, namedIn, runnerOf, runIn, withRun, noRun, endedWith, resumed}
 use Rattle.runner.specs.Outcomes.{outcome, progressReply, call}
 use Rattle.runner.specs.Outcomes as outcomes
 use Rattle.runner.specs.Replies.{advanceReply}
@@ -103,7 +109,7 @@ not-under-way spent = refl
 going-once : {q q′ : Run} → going q ≡ going q′ → q ≡ q′
 going-once e = cc
 
--- The runner that advance hands back: at a box of the run, or with the ending.
+-- The runner that advance hands back: at a box of the run, or with what is kept of the ending.
 abbrev pub standsAt : Runner → (at steps : ℕ) → Runner
 standsAt s at steps = withRun (seen s at steps) s
 
@@ -111,39 +117,73 @@ stands : (r s next : Runner) (at steps : ℕ) → Stored r s → next ≡ stands
 unfolding resumed
 stands r s next at steps h e = e ∙ ap (withRun (seen s at steps)) h
 
+abbrev keeps : Bool → (state took named : ℕ) → Remains
+keeps hidden state took named =
+    let own : Remains = record { state = state; took = took; named = named } in
+    cond (eqb state 2) own (cond hidden (record { state = 3; took = 0; named = 0 }) own)
+
+abbrev pub endsWith : Runner → Remains → (value : ℕ) → Runner
+endsWith r k value = runnerOf (chartIn r) noRun (k .state) (k .took) value (k .named)
+
+kept-runner : (m : Mode) (e : Ending) (steps : ℕ) (r : Runner)
+    → endsWith r (keeps (hides m) (stateOf e) steps (namedIn e)) (valueIn e) ≡ resumed (kept m (over e steps)) r
+unfolding kept resumed endedWith
+kept-runner m (valued v) steps r = refl
+kept-runner Bare (notice named) steps r = refl
+kept-runner Surveillance (notice named) steps r = refl
+kept-runner HighWater (notice named) steps r = refl
+kept-runner Bare spent steps r = refl
+kept-runner Surveillance spent steps r = refl
+kept-runner HighWater spent steps r = refl
+
+-- What it tells of an ending is what it tells of what is kept.
+kept-reply : (m : Mode) (e : Ending) (steps : ℕ) → outcomes.ended (cond (hides m) 0 steps) ≡ progressReply m (kept m (over e steps))
+unfolding progressReply
+kept-reply m e steps =
+    kept-by (λ (x : Progress). outcomes.ended (cond (hides m) 0 steps) ≡ progressReply m x) m (over e steps) refl (λ h. rw h)
+
 -- What advance leaves and tells where its boxes have come to s.
-module _ (m : ℕ) (r s next : Runner) (at end value named steps : ℕ) (told : AdvanceTold) (h : Stored r s)
-    (stays : end ≡ 1 → next ≡ standsAt s at steps) (ends : (end ≡ 1 → ⊥) → next ≡ runnerOf (chartIn s) noRun end steps value named) where
-  came-running : isRunning r ≡ true → CameTo (r .table) m (runIn r) s at end value named steps
-      → advanceReply told ≡ cond (eqb end 1) (outcomes.running steps) (outcomes.ended steps)
+module _ (m todo : ℕ) (r s next : Runner) (at end value named steps : ℕ) (told : AdvanceTold) (h : Stored r s)
+    (came : CameTo (r .table) todo (runIn r) s at end value named steps)
+    (stays : end ≡ 1 → next ≡ standsAt s at steps) (hidden : Bool) (hides-as : hidden ≡ hides (modeOf (r .mode)))
+    (ends : (end ≡ 1 → ⊥) → next ≡ endsWith s (keeps hidden end steps named) value) where
+  came-running : check (calls.advance m) (standingOf r) ≡ Done → todo ≡ m
+      → advanceReply told ≡ cond (eqb end 1) (outcomes.running steps) (outcomes.ended (cond hidden 0 steps))
       → outcome (advanceReply told) [] next ≡ call (calls.advance m) r
-  unfolding progressReply resumed endedWith
-  came-running on (inl w) t =
-      advance-runs m r next told (going (seen s at steps)) on (w .2) (t ∙ rw (w .0)) (stands r s next at steps h (stays (w .0)))
-  came-running on (inr w) t =
+  unfolding progressReply kept
+  came-running on all t =
+      let mode = modeOf (r .mode) in
+      let boxes : run (r .table) m (going (runIn r)) ≡ run (r .table) todo (going (runIn r)) = rw all in
+      ⊎-elim
+      (λ w. advance-runs m r next told (going (seen s at steps)) on (ap (kept mode) (boxes ∙ w .2)) (t ∙ rw (w .0)) (stands r s next at steps h (stays (w .0))))
+      (λ w.
       let e = w .0 in
       let no : eqb end 1 ≡ false = ap (λ (k : ℕ). eqb k 1) (w .1) ∙ not-under-way e in
-      advance-runs m r next told (over e steps) on (w .4) (t ∙ rw no)
-      (ends (λ z. let y : eqb end 1 ≡ true = rw z in clash-bool y no)
-      ∙ rw (w .1, w .2, w .3) (ap (λ (x : Runner). runnerOf (chartIn x) noRun (stateOf e) steps (valueIn e) (namedIn e)) h))
-    where
-      clash-bool : {b : Bool} → b ≡ true → b ≡ false → ⊥
-      clash-bool y z = let q : _≡_ {A = ℕ} 0 1 = cc in omega arith
+      advance-runs m r next told (kept mode (over e steps)) on (ap (kept mode) (boxes ∙ w .4)) (t ∙ rw (no, hides-as) (kept-reply mode e steps))
+      (ends (λ z. no-ending e (sym (w .1) ∙ z))
+      ∙ rw (w .1, w .2, w .3, hides-as)
+      (ap (λ (x : Runner). endsWith x (keeps (hides mode) (stateOf e) steps (namedIn e)) (valueIn e)) h ∙ kept-runner mode e steps r)))
+      came
 
-  came-resting : isRunning r ≡ false → CameTo (r .table) 0 (runIn r) s at end value named steps → advanceReply told ≡ outcomes.refused 23 0
+  came-resting : (x : Refusal) → check (calls.advance m) (standingOf r) ≡ Refused x → todo ≡ 0 → advanceReply told ≡ outcomes.turnedAway x
       → outcome (advanceReply told) [] next ≡ call (calls.advance m) r
   unfolding run resumed
-  came-resting off (inl w) t =
-      let same : seen s at steps ≡ runIn r = going-once (sym (w .2)) in
-      advance-refuses m r next told off t
-      (stands r s next at steps h (stays (w .0)) ∙ ap (λ (q : Run). withRun q r) same)
-  came-resting off (inr w) t =
-      let e : going (runIn r) ≡ over (w .0) steps = w .4 in
+  came-resting x off none t =
+      let boxes : going (runIn r) ≡ run (r .table) todo (going (runIn r)) = rw none in
+      ⊎-elim
+      (λ w.
+      let same : seen s at steps ≡ runIn r = going-once (sym (boxes ∙ w .2)) in
+      advance-refuses m r next told x off t (stands r s next at steps h (stays (w .0)) ∙ ap (λ (q : Run). withRun q r) same))
+      (λ w.
+      let e : going (runIn r) ≡ over (w .0) steps = boxes ∙ w .4 in
       let z : _≡_ {A = ℕ} 0 1 = cc in
-      absurd (omega arith)
+      absurd (omega arith))
+      came
 
-  pub advance-came : (running : Bool) → running ≡ isRunning r → CameTo (r .table) (cond running m 0) (runIn r) s at end value named steps
-      → advanceReply told ≡ cond running (cond (eqb end 1) (outcomes.running steps) (outcomes.ended steps)) (outcomes.refused 23 0)
+  pub advance-came : (verdict : Verdict) → verdict ≡ check (calls.advance m) (standingOf r)
+      → (verdict ≡ Done → todo ≡ m) × ((x : Refusal) → verdict ≡ Refused x → todo ≡ 0)
+      → (verdict ≡ Done → advanceReply told ≡ cond (eqb end 1) (outcomes.running steps) (outcomes.ended (cond hidden 0 steps)))
+      × ((x : Refusal) → verdict ≡ Refused x → advanceReply told ≡ outcomes.turnedAway x)
       → outcome (advanceReply told) [] next ≡ call (calls.advance m) r
-  advance-came true e w t = came-running (sym e) w t
-  advance-came false e w t = came-resting (sym e) w t
+  advance-came Done e boxes t = came-running (sym e) (boxes .0 refl) (t .0 refl)
+  advance-came (Refused x) e boxes t = came-resting x (sym e) (boxes .1 x refl) (t .1 x refl)

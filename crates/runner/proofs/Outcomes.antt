@@ -2,7 +2,6 @@
 use Prim.Native.Nat.{ℕ, _≤_, _<_}
 use mathlib.Core.Path.{_≡_, ap, sym, _∙_}
 use mathlib.Core.List.{List, []}
-use mathlib.Core.Bool.{true, false}
 use borrow.Author.Tests.{le-leb, lt-leb, eq-eqb, ne-eqb}
 use Rattle.format.specs.File.{checkFile, refusal}
 use Rattle.format.specs.declared.Header.{Header}
@@ -12,6 +11,7 @@ use Rattle.format.proofs.Accepted.{accepted}
 use Rattle.chart.specs.Chart.{tableOf}
 use Rattle.chart.specs.WriteBack.{fileLength, putFile}
 use Rattle.chart.proofs.Writes.{put-fits}
+use Rattle.marks.specs.Marks.{modeOf}
 use Rattle.machine.specs.Run.{Progress}
 use Rattle.begin.specs.Begin.{effective, firstVars, firstMarks}
 use Rattle.calls.specs.Calls.{Call, refuse, fileVerdict, check}
@@ -24,7 +24,7 @@ use Rattle.runner.specs.declared.LoadTold.the-variants as load
 use Rattle.runner.specs.declared.AdvanceTold.{AdvanceTold}
 use Rattle.runner.specs.declared.AnswerTold.the-variants as answer
 use Rattle.runner.specs.declared.Written.the-variants as written
-use Rattle.runner.specs.State.{chartIn, isRunning, standingOf, endingIn, runnerOf, idle, dropped, ran, resumed}
+use Rattle.runner.specs.State.{chartIn, standingOf, endingIn, runnerOf, idle, dropped, ran, resumed}
 use Rattle.runner.specs.Outcomes.{outcome, after, progressReply, says, outcomeBy, call}
 use Rattle.runner.specs.Outcomes as outcomes
 use Rattle.runner.specs.Replies.{loadReply, verdictReply, advanceReply, answerReply, writtenReply}
@@ -75,24 +75,25 @@ module _ (mode : ℕ) (inputs : List ℕ) (allowed limit : ℕ) (r : Runner) whe
   begin-refuses v x e d =
       ap (λ (y : Verdict). outcome (verdictReply y) [] r) d ∙ by-verdict (calls.begin mode inputs allowed limit) r (Refused x) (sym e ∙ d)
 
--- Advance: a run that has come to something, and a runner without one.
+-- Advance: a run that has come to something, and one that is refused.
 module _ (m : ℕ) (r next : Runner) (told : AdvanceTold) where
-  pub advance-runs : (p : Progress) → isRunning r ≡ true → ran m r ≡ p → advanceReply told ≡ progressReply p → next ≡ resumed p r
+  pub advance-runs : (p : Progress) → check (calls.advance m) (standingOf r) ≡ Done → ran m r ≡ p → advanceReply told ≡ progressReply (modeOf (r .mode)) p
+      → next ≡ resumed p r
       → outcome (advanceReply told) [] next ≡ call (calls.advance m) r
-  unfolding check outcomeBy says after
-  advance-runs p on e t d =
+  unfolding outcomeBy says after
+  advance-runs p v e t d =
       ap (λ (x : outcomes.Reply). outcome x [] next) t
-      ∙ ap (outcome (progressReply p) []) d
-      ∙ ap (λ (x : Progress). outcome (progressReply x) [] (resumed x r)) (sym e)
-      ∙ by-verdict (calls.advance m) r Done (rw on)
+      ∙ ap (outcome (progressReply (modeOf (r .mode)) p) []) d
+      ∙ ap (λ (x : Progress). outcome (progressReply (modeOf (r .mode)) x) [] (resumed x r)) (sym e)
+      ∙ by-verdict (calls.advance m) r Done v
 
-  pub advance-refuses : isRunning r ≡ false → advanceReply told ≡ outcomes.refused 23 0 → next ≡ r
+  pub advance-refuses : (x : Refusal) → check (calls.advance m) (standingOf r) ≡ Refused x → advanceReply told ≡ outcomes.turnedAway x → next ≡ r
       → outcome (advanceReply told) [] next ≡ call (calls.advance m) r
-  unfolding check outcomeBy
-  advance-refuses off t d =
-      ap (λ (x : outcomes.Reply). outcome x [] next) t
-      ∙ ap (outcome (outcomes.refused 23 0) []) d
-      ∙ by-verdict (calls.advance m) r (refuse 23) (rw off)
+  unfolding outcomeBy
+  advance-refuses x v t d =
+      ap (λ (y : outcomes.Reply). outcome y [] next) t
+      ∙ ap (outcome (outcomes.turnedAway x) []) d
+      ∙ by-verdict (calls.advance m) r (Refused x) v
 
 -- Abandon, answer and write back.
 module _ (r : Runner) where

@@ -1,11 +1,14 @@
 -- The six calls, by one definition: what refuses a call, and else what it tells, the lent buffer and the runner afterwards.
 use Prim.Native.Nat.{ℕ}
 use mathlib.Core.List.{List, []}
+use mathlib.Core.Bool.{cond}
 use Rattle.format.specs.File.{headerOf}
 use Rattle.format.specs.declared.Header.{Header}
 use Rattle.format.specs.declared.Refusal.{Refusal}
 use Rattle.chart.specs.Chart.{Chart, chartOf}
 use Rattle.chart.specs.WriteBack.{fileLength, withFile}
+use Rattle.marks.specs.Marks.{modeOf, hides}
+use Rattle.marks.specs.declared.Mode.{Mode}
 use Rattle.machine.specs.Run.{Run, Ending, Progress, going, over}
 use Rattle.begin.specs.Begin.{effective}
 use Rattle.calls.specs.Calls.{Call, load, begin, advance, answer, abandon, writeBack, check}
@@ -66,16 +69,16 @@ after (begins start) r = underWay (chartIn r) (start (r .header))
 after drops r = dropped r
 after (replaces by) r = idle (by (chartIn r))
 
--- What advance tells of what the run has come to.
-unfoldable pub progressReply : Progress → Reply
-progressReply (going q) = running (q .steps)
-progressReply (over e steps) = ended steps
+-- What advance tells of what the run has come to. 02, b: "Advance in this mode tells only "ended" with 0 steps", high-water.
+unfoldable pub progressReply : Mode → Progress → Reply
+progressReply mode (going q) = running (q .steps)
+progressReply mode (over e steps) = ended (cond (hides mode) 0 steps)
 
 -- The reply of a call that is not refused.
 unfoldable pub says : Call → Runner → Reply
 says (load file) r = chart (headerOf file .inputs) (headerOf file .boxes)
 says (begin mode inputs allowed limit) r = done
-says (advance m) r = progressReply (ran m r)
+says (advance m) r = progressReply (modeOf (r .mode)) (ran m r)
 says answer r = ending (endingIn r) (r .took)
 says abandon r = done
 says (writeBack buffer) r = wrote (fileLength (r .header))

@@ -6,8 +6,9 @@ use lib.Dec.{eqb, leb}
 use lib.ListN.{replicate}
 use Rattle.format.specs.File.{inRange}
 use Rattle.chart.specs.Chart.{Chart}
-use Rattle.machine.specs.Run.{Run, Ending, valued, notice, spent, Progress, going, over, run}
-use Rattle.calls.specs.Calls.{Standing, standing}
+use Rattle.marks.specs.Marks.{modeOf, hides}
+use Rattle.machine.specs.Run.{Run, Ending, valued, notice, spent, Progress, going, over, run, kept}
+use Rattle.calls.specs.Calls.{Standing}
 use Rattle.runner.specs.declared.Runner.{Runner}
 
 -- The chart in a runner. It holds one where the header is one that a file can have.
@@ -24,9 +25,13 @@ isRunning r = eqb (r .state) 1
 abbrev pub isEnded : Runner → Bool
 isEnded r = leb 2 (r .state)
 
+-- The least amount by which a run may be advanced: its limit in high-water mode, and else any.
+abbrev pub leastIn : Runner → ℕ
+leastIn r = cond (hides (modeOf (r .mode))) (r .limit) 0
+
 -- What the refusals look at.
 abbrev pub standingOf : Runner → Standing
-standingOf r = standing (r .header) (isRunning r) (isEnded r)
+standingOf r = record { header = r .header; running = isRunning r; least = leastIn r; ended = isEnded r }
 
 -- The kinds of ending are states 2, 3 and 4.
 abbrev pub stateOf : Ending → ℕ
@@ -99,9 +104,9 @@ endedWith e steps r = runnerOf (chartIn r) noRun (stateOf e) steps (valueIn e) (
 unfoldable pub dropped : Runner → Runner
 dropped r = idle (chartIn r)
 
--- What m boxes of the run in a runner come to, and the runner that has come to it.
+-- What m boxes of the run in a runner come to, as it is kept, and the runner that has come to it.
 abbrev pub ran : ℕ → Runner → Progress
-ran m r = run (r .table) m (going (runIn r))
+ran m r = kept (modeOf (r .mode)) (run (r .table) m (going (runIn r)))
 
 unfoldable pub resumed : Progress → Runner → Runner
 resumed (going q) r = withRun q r

@@ -2,7 +2,8 @@
 use Prim.Native.Nat.{ℕ}
 use mathlib.Core.List.{List}
 use Rattle.format.specs.declared.Header.{Header}
-use Rattle.machine.specs.Run.{Run, Ending, spent, Progress, going, over, run}
+use Rattle.marks.specs.Marks.{modeOf}
+use Rattle.machine.specs.Run.{Run, Ending, spent, Progress, going, over, run, kept}
 use Rattle.begin.specs.Begin.{firstVars, firstMarks}
 
 -- A run at its start: "Inputs are copied, other variables are 0, each withheld input is marked and nothing else is."
@@ -15,11 +16,11 @@ pub record Finish : Type 0 where
   pub ending : Ending
   pub steps : ℕ
 
--- The ending that a run has come to; of one that goes on, as if its limit were reached. As many boxes as a limit above 0 end every run.
+-- The ending that a run has come to; of one that goes on, spent so far. As many boxes as a limit above 0 end every run.
 unfoldable pub finish : Progress → Finish
 finish (going q) = record { ending = spent; steps = q .steps }
 finish (over e steps) = record { ending = e; steps = steps }
 
 -- The limit is the number that it means, and 0 runs nothing; a mode's number is read by `modeOf`.
 unfoldable pub whole : Header → (table : List ℕ) → (mode : ℕ) (inputs : List ℕ) (allowed limit : ℕ) → Finish
-whole h table mode inputs allowed limit = finish (run table limit (going (startOf mode inputs allowed limit h)))
+whole h table mode inputs allowed limit = finish (kept (modeOf mode) (run table limit (going (startOf mode inputs allowed limit h))))

@@ -9,9 +9,10 @@ ghost use mathlib.Core.Bool.{cond};
 ghost use mathlib.Core.List.{[]};
 ghost use lib.Dec.{eqb};
 ghost use Rattle.format.specs.File.{refusal};
+ghost use Rattle.calls.specs.declared.Verdict.the-variants.{Done, Refused};
 ghost use Rattle.calls.specs.Calls.{load, begin, advance, answer, abandon, writeBack};
 ghost use Rattle.runner.specs.State.{newRunner, dropped};
-ghost use Rattle.runner.specs.Outcomes.{outcome, call};
+ghost use Rattle.runner.specs.Outcomes.{outcome, turnedAway, call};
 ghost use Rattle.runner.specs.Outcomes as outcomes;
 ghost use Rattle.runner.specs.Replies.{loadReply, verdictReply, advanceReply, answerReply, writtenReply};
 
@@ -187,10 +188,11 @@ impl Runner {
     pub fn advance(mut self, m: u32) -> Advanced
         ensures { λ r. ⌜ outcome (advanceReply (r .told)) [] (r .runner) ≡ call (advance m) self ⌝ }
     {
-        let running = self.state == 1;
         let limit = self.limit as u32;
         let mode = marks::mode_of(self.mode);
-        let mut todo = amount(running, m);
+        let hidden = marks::hides(mode);
+        let verdict = calls::check_advance(self.state == 1, choose(hidden, limit, 0), m);
+        let mut todo = amount(verdict, m);
         let mut at = self.at;
         let mut steps = self.steps as u32;
         let mut end: u8 = 1;
@@ -244,12 +246,13 @@ impl Runner {
             self.at = 0;
             self.limit = 0;
             self.steps = 0;
-            self.state = end;
-            self.took = steps;
+            let ending = kept(hidden, end, steps, named);
+            self.state = ending.state;
+            self.took = ending.took;
             self.value = value;
-            self.named = named;
+            self.named = ending.named;
         }
-        let told = tell(running, end, steps);
+        let told = tell(verdict, hidden, end, steps);
         Advanced { told, runner: self }
     }
 
@@ -307,23 +310,60 @@ impl Runner {
     }
 }
 
-// How many boxes an advance by m may run.
-fn amount(running: bool, m: u32) -> u32
-    ensures { λ r. ⌜ r ≡ cond running m 0 ⌝ }
+fn choose(b: bool, yes: u32, no: u32) -> u32
+    ensures { λ r. ⌜ r ≡ cond b yes no ⌝ }
 {
-    if running { m } else { 0 }
+    if b { yes } else { no }
 }
 
-// What advance tells of a run that has come to state `end`, where one was under way.
-fn tell(running: bool, end: u8, steps: u32) -> AdvanceTold
-    ensures { λ r.
-        ⌜ advanceReply r ≡ cond running (cond (eqb end 1) (outcomes.running steps) (outcomes.ended steps)) (outcomes.refused 23 0) ⌝ }
+// How many boxes an advance by m may run, by the verdict on it.
+fn amount(verdict: Verdict, m: u32) -> u32
+    ensures { λ r. ⌜ (verdict ≡ Done → r ≡ m) × ((x : Refusal) → verdict ≡ Refused x → r ≡ 0) ⌝ }
 {
-    if running {
-        if end == 1 {
-            return AdvanceTold::Running(steps);
-        }
-        return AdvanceTold::Ended(steps);
+    match verdict {
+        Verdict::Done => m,
+        Verdict::Refused(_) => 0,
     }
-    AdvanceTold::Refused(refusal(23))
+}
+
+// What is kept of an ended run besides its value: its state, the steps that it took, and the set that it names. A value keeps its count; where counts are hidden,
+// nothing else does.
+struct Remains {
+    state: u8,
+    took: u32,
+    named: u16,
+}
+
+fn kept(hidden: bool, state: u8, took: u32, named: u16) -> Remains
+    ensures { λ r. ⌜ r ≡
+        (let own : Remains = record { state = state; took = took; named = named } in cond (eqb state 2) own (cond hidden (record { state = 3; took = 0; named = 0 }) own)) ⌝ }
+{
+    if state == 2 {
+        return Remains { state, took, named };
+    }
+    if hidden {
+        return Remains {
+            state: 3,
+            took: 0,
+            named: 0,
+        };
+    }
+    Remains { state, took, named }
+}
+
+// What advance tells by the verdict on it, of a run that has come to state `end` where it was accepted.
+fn tell(verdict: Verdict, hidden: bool, end: u8, steps: u32) -> AdvanceTold
+    ensures { λ r.
+        ⌜ (verdict ≡ Done → advanceReply r ≡ cond (eqb end 1) (outcomes.running steps) (outcomes.ended (cond hidden 0 steps)))
+        × ((x : Refusal) → verdict ≡ Refused x → advanceReply r ≡ turnedAway x) ⌝ }
+{
+    match verdict {
+        Verdict::Done => {
+            if end == 1 {
+                return AdvanceTold::Running(steps);
+            }
+            AdvanceTold::Ended(choose(hidden, 0, steps))
+        }
+        Verdict::Refused(refusal) => AdvanceTold::Refused(refusal),
+    }
 }

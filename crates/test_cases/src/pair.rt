@@ -11,8 +11,8 @@ use told::Encoded;
 use told::kinds;
 
 // `told` is what the last call told, and `whole` the answer of a copy of the model that was advanced at once by the whole limit of the last
-// run. `inputs` and `boxes` are those of the chart held, `mode` that of the last run. `same` becomes false at the first difference; `case` and
-// `calls` say where that is.
+// run. `inputs` and `boxes` are those of the chart held, `mode` and `limit` those of the last run. `same` becomes false at the first difference;
+// `case` and `calls` say where that is.
 pub struct Pair {
     runner: Runner,
     model: Model,
@@ -20,6 +20,7 @@ pub struct Pair {
     whole: Encoded,
     pub inputs: u32,
     pub boxes: u32,
+    pub limit: u32,
     mode: u32,
     case: u32,
     calls: u32,
@@ -36,6 +37,7 @@ pub fn new() -> Pair {
         whole: told,
         inputs: 0,
         boxes: 0,
+        limit: 0,
         mode: 0,
         case: 0,
         calls: 0,
@@ -169,6 +171,7 @@ impl Pair {
         let whole = compare::of_model(turn.model.answer());
         self.whole = whole;
         self.mode = mode % 3;
+        self.limit = most;
         if t.kind != kinds::ENDED {
             return self.differ(b"the limit at once", begun, t);
         }

@@ -34,7 +34,7 @@ fn call(pair: Pair, state: &mut u64, file: &[u8]) -> Pair {
         return begin(pair, state);
     }
     if kind < 24 {
-        return pair.advance(arguments::amount(state));
+        return pair.advance(arguments::amount(state, pair.limit));
     }
     if kind < 26 {
         return pair.answer();

@@ -72,7 +72,7 @@ pub fn difference(what: &[u8], number: u32, call: u32, first: Encoded, second: E
 
 // The numbers 1 to 24, but 11, which is the run program's, and those that no refusal has.
 fn is_refusal(i: u64) -> bool {
-    (i <= 10) | (i == 12) | (20 < i)
+    (i <= 10) | (i == 12) | (i == 13) | (20 < i)
 }
 
 fn refusals(counts: &[u64; 64]) {

@@ -85,14 +85,17 @@ pub fn begin(state: &mut u64, k: u32) -> Arguments {
     }
 }
 
-// The boxes of an advance.
-pub fn amount(state: &mut u64) -> u32 {
-    let kind = below(state, 8);
+// The boxes of an advance, at times around the limit of the run, which a high-water run is to be advanced by at once.
+pub fn amount(state: &mut u64, limit: u32) -> u32 {
+    let kind = below(state, 12);
     match kind {
         0 => below(state, 3),
         1 => 4294967295,
         2 => random::edge(state),
         3 => below(state, 400),
+        4 => std::num::wrapping_sub_u32(limit, 1),
+        5 => std::num::wrapping_add_u32(limit, 1 + below(state, 100)),
+        6..=7 => limit,
         _ => below(state, 8),
     }
 }

@@ -225,16 +225,22 @@ impl Model {
         }
     }
 
-    // Runs `m` boxes, or fewer where the run ends.
+    // Runs `m` boxes, or fewer where the run ends. A high-water run is advanced by its whole limit or
+    // not at all, and tells no steps here: answer tells them with a value.
     pub fn advance(self, m: u32) -> Turn {
         let phase = self.phase;
+        let limit = self.limit;
+        let high_water = self.mode == 2;
         if phase != 1 {
             return self.turned_away(23, 0);
         }
+        if high_water & (m < limit) {
+            return self.turned_away(13, 0);
+        }
         let file = self.file;
         let run = stepped(self.run(), &file, m);
-        let steps = run.steps;
         let kind = if run.phase == 1 { 2 } else { 3 };
+        let steps = if high_water { 0 } else { run.steps };
         Turn {
             model: self.with_run(run),
             told: counted(kind, steps),

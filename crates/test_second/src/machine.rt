@@ -9,7 +9,8 @@ use crate::rules::reads_right;
 // Word j of `marks` is about input j alone: its bit v is set where the set of variable v has input j.
 // `counter` is one set, bit j for input j. `phase` is 0 with no run, 1 under way, and the kind that
 // answer tells once the run has ended: 4 value, 5 notice, 6 spent. `carried` goes with the phase: the
-// value of 4, the set that 5 names, else 0.
+// value of 4, the set that 5 names, else 0. `steps` is the count of the boxes run, and 0 after a
+// high-water notice.
 pub struct Run {
     pub vars: [u32; 32],
     pub marks: [u32; 16],
@@ -116,6 +117,12 @@ pub fn stopped(mut run: Run, phase: u32, carried: u32) -> Run {
     run
 }
 
+// The notice of a high-water run: no count and no set, as either could follow withheld inputs.
+fn uncounted(mut run: Run) -> Run {
+    run.steps = 0;
+    stopped(run, 5, 0)
+}
+
 fn assigned(mut run: Run, file: &[u8]) -> Run {
     let at = run.at;
     let mode = run.mode;
@@ -170,22 +177,26 @@ fn halted(run: Run) -> Run {
     if (mode == 1) & (set != 0) {
         return stopped(run, 5, set);
     }
-    // A high-water notice names nothing.
     if (mode == 2) & ((set | counter) != 0) {
-        return stopped(run, 5, 0);
+        return uncounted(run);
     }
     stopped(run, 4, value)
 }
 
-// A run after the count of a box is the limit: spent, unless that box ended it.
+// A run after a box is counted: spent where the count is the limit, unless that box ended it. A
+// high-water run that is spent ends as its notice does.
 fn limited(run: Run) -> Run {
     let phase = run.phase;
+    let mode = run.mode;
     let steps = run.steps;
     let limit = run.limit;
-    if (phase == 1) & (steps == limit) {
-        return stopped(run, 6, 0);
+    if (phase != 1) | (steps != limit) {
+        return run;
     }
-    run
+    if mode == 2 {
+        return uncounted(run);
+    }
+    stopped(run, 6, 0)
 }
 
 // One box, counted.

@@ -29,19 +29,19 @@ refuse-requires : tie.Need-refuse-requires
 refuse-requires c κs = search needs
 
 returns : tie.Need-returns
-returns c = λ ended. c .refuse .ensures ∙ tells-held _ _ _ _ _ _ (sym (c .before .before .in-range .ensures) ∙ not-true _ (c .before .if1 .taken)) ended
+returns c = λ s eh er. c .refuse .ensures ∙ tells-held _ _ _ _ _ _ (sym (c .before .before .in-range .ensures) ∙ not-true _ (c .before .if1 .taken)) s eh er
 
 refuse-requires-2 : tie.Need-refuse-requires-2
 refuse-requires-2 c κs = search needs
 
 returns-2 : tie.Need-returns-2
-returns-2 c = λ ended. c .refuse2 .ensures ∙ tells-state _ _ _ _ _ _ (held (c .before .before)) (c .before .if2 .taken) ended
+returns-2 c = λ s eh er. c .refuse2 .ensures ∙ tells-state _ _ _ _ _ _ (held (c .before .before)) (c .before .if2 .taken) s eh er
 
 refuse-requires-3 : tie.Need-refuse-requires-3
 refuse-requires-3 c κs = search needs
 
 returns-3 : tie.Need-returns-3
-returns-3 c = λ ended. c .refuse3 .ensures ∙ tells-mode _ _ _ _ _ _ (held (c .before .before .before)) (c .before .before .if2 .left) (c .before .if3 .taken) ended
+returns-3 c = λ s eh er. c .refuse3 .ensures ∙ tells-mode _ _ _ _ _ _ (held (c .before .before .before)) (c .before .before .if2 .left) (c .before .if3 .taken) s eh er
 
 to-usize-requires : tie.Need-to-usize-requires
 to-usize-requires c κs = search needs
@@ -50,7 +50,7 @@ refuse-requires-4 : tie.Need-refuse-requires-4
 refuse-requires-4 c κs = search needs
 
 returns-4 : tie.Need-returns-4
-returns-4 c = λ ended. c .refuse4 .ensures ∙ tells-count (past (c .before .before .before)) _ _ _ (λ e. c .before .if4 .taken (e ∙ sym (c .before .before .to-usize .ensures .0))) ended
+returns-4 c = λ s eh er. c .refuse4 .ensures ∙ tells-count (past (c .before .before .before)) _ _ _ (λ e. c .before .if4 .taken (e ∙ sym (c .before .before .to-usize .ensures .0))) s eh er
 
 cast-if5 : tie.Need-cast-if5
 cast-if5 c = search needs
@@ -62,7 +62,7 @@ refuse-requires-5 : tie.Need-refuse-requires-5
 refuse-requires-5 c κs = search needs
 
 returns-5 : tie.Need-returns-5
-returns-5 c = λ ended. c .refuse5 .ensures ∙ tells-allowed (past (c .before .before .before .before)) _ _ _ (lent (c .before .before)) (c .before .if5 .taken) ended
+returns-5 c = λ s eh er. c .refuse5 .ensures ∙ tells-allowed (past (c .before .before .before .before)) _ _ _ (lent (c .before .before)) (c .before .if5 .taken) s eh er
 
 refuse-requires-6 : tie.Need-refuse-requires-6
 refuse-requires-6 c κs = search needs
@@ -70,7 +70,7 @@ refuse-requires-6 c κs = search needs
 returns-6 : tie.Need-returns-6
 returns-6 c =
     let at-five = c .before .before in
-    λ ended. c .refuse6 .ensures ∙ tells-limit (past (at-five .before .before .before)) _ _ _ (lent (at-five .before)) (at-five .if5 .left) (c .before .if6 .taken) ended
+    λ s eh er. c .refuse6 .ensures ∙ tells-limit (past (at-five .before .before .before)) _ _ _ (lent (at-five .before)) (at-five .if5 .left) (c .before .if6 .taken) s eh er
 
 returns-7 : tie.Need-returns-7
 returns-7 c = tells-done (past (c .before .before .before .before)) _ _ _ (lent (c .before .before)) (c .before .if5 .left) (c .if6 .left)

@@ -20,8 +20,8 @@ refuse-requires c κs = search needs
 
 returns : tie.Need-returns
 returns c =
-    λ buffer running ended l.
-    c .refuse .ensures ∙ tells-no-chart _ _ (sym (c .before .before .in-range .ensures) ∙ not-true _ (c .before .if1 .taken)) buffer running ended l
+    λ buffer s l eh.
+    c .refuse .ensures ∙ tells-no-chart _ _ (sym (c .before .before .in-range .ensures) ∙ not-true _ (c .before .if1 .taken)) buffer s l eh
 
 file-length-requires : tie.Need-file-length-requires
 file-length-requires c κs = search needs
@@ -32,8 +32,8 @@ refuse-requires-2 c κs = search needs
 returns-2 : tie.Need-returns-2
 returns-2 c =
     let size = c .before .before .file-length .ensures in
-    λ buffer running ended l.
-    c .refuse2 .ensures ∙ tells-short _ _ (held (c .before .before .before)) (omega arith) buffer running ended l
+    λ buffer s l eh.
+    c .refuse2 .ensures ∙ tells-short _ _ (held (c .before .before .before)) (omega arith) buffer s l eh
 
 returns-3 : tie.Need-returns-3
 returns-3 c =

@@ -1,10 +1,11 @@
 -- `promised` holds the claims of this crate: each by its theorem.
 use Rattle.claims.proofs.Demand3.{demand3}
 use Rattle.claims.proofs.OneFile.{one-file}
-use Rattle.claims.proofs.RunLaws.{refusal-changes-nothing, advances-join, no-operation-stops, counts-boxes, limit-ends, tells-whole-run, within-limit, cleared}
+use Rattle.claims.proofs.RunLaws.{refusal-changes-nothing, advances-join, no-operation-stops, counts-boxes, limit-ends, one-advance-ends, tells-whole-run, within-limit, cleared}
 use Rattle.claims.proofs.ChartLaws.{held-obeys, runs-in-range, ends-in-range, loaded-is-written, written-is-loaded}
 use Rattle.claims.proofs.Marking.{empty-where-unmarked, sets-are-unions, sets-only-name}
 use Rattle.claims.proofs.Naming.{marks-withheld, names-withheld, surveillance-names, others-name-none}
+use Rattle.claims.proofs.HighWater.{high-water-tells, high-water-answers, high-water-ends}
 use Rattle.claims.proofs.Replies.{replies-distinct}
 use Rattle.claims.proofs.Bounds.{answers-at-the-limit, runs-within-bounds, written-into-exact-room, held-within-bounds, states-within-bounds, names-within-bounds}
 use Rattle.claims.proofs.promised.Statement.{statement}
@@ -19,6 +20,7 @@ returns c = (
   no-operation-stops,
   counts-boxes,
   limit-ends,
+  one-advance-ends,
   tells-whole-run,
   within-limit,
   cleared,
@@ -35,6 +37,9 @@ returns c = (
   names-withheld,
   surveillance-names,
   others-name-none,
+  high-water-tells,
+  high-water-answers,
+  high-water-ends,
   answers-at-the-limit,
   runs-within-bounds,
   written-into-exact-room,

@@ -2,23 +2,24 @@
 -- at the start in what boxes store alone, and no ending is met. Where the arms of a box that does not end the run meet, one law says what it left.
 use mathlib.Core.Path.{_≡_, refl, ap, sym, _∙_}
 use mathlib.Core.Logic.{⊎-elim, inl}
-use mathlib.Core.Bool.{cond}
-use Prim.Native.Nat.{ℕ, _+_, _≤_, _<_, _^_}
+use mathlib.Core.Bool.{Bool, cond}
+use Prim.Native.Nat.{_+_, _≤_, _<_, _^_}
 use native.Mathlib.Omega.{arith}
 use borrow.Author.Needs.{needs}
-use Rattle.marks.specs.Marks.{modeOf}
+use Rattle.marks.specs.Marks.{modeOf, hides}
 use Rattle.machine.specs.Run.{valued, notice, spent, going, goesOn, settle, step, run}
 use Rattle.machine.proofs.Runs.{run-none}
 use Rattle.runner.specs.declared.Runner.{Runner}
-use Rattle.runner.specs.State.{isRunning, runIn}
-use Rattle.runner.proofs.Boxes.{seen, Stored, stored-more, acts, left, goes-spent, goes-further, turned, CameTo, came-over, no-ending, advance-came}
+use Rattle.runner.specs.declared.Remains.{Remains}
+use Rattle.runner.specs.State.{standingOf, runIn}
+use Rattle.runner.proofs.Boxes.{seen, Stored, stored-more, acts, left, goes-spent, goes-further, turned, CameTo, came-over, no-ending, endsWith, advance-came}
 use Rattle.runner.proofs.Runner.advance.Statement.{statement}
 use Rattle.runner.proofs.Runner.advance.Tie as tie
 
 abbrev Inv-loop : tie.InvT-loop
-Inv-loop m self₀ running limit mode todo₀ at₀ steps₀ end₀ value₀ named₀ self todo at steps end value named =
-    (run (self₀ .table) (cond running m 0) (going (runIn self₀)) ≡ run (self₀ .table) todo (going (seen self at steps)))
-    × (todo ≤ cond running m 0)
+Inv-loop m self₀ limit mode hidden verdict todo₀ at₀ steps₀ end₀ value₀ named₀ self todo at steps end value named =
+    (run (self₀ .table) todo₀ (going (runIn self₀)) ≡ run (self₀ .table) todo (going (seen self at steps)))
+    × (todo ≤ todo₀)
     × Stored self₀ self
     × (limit ≡ self₀ .limit)
     × (mode ≡ modeOf (self₀ .mode))
@@ -29,17 +30,17 @@ Inv-loop m self₀ running limit mode todo₀ at₀ steps₀ end₀ value₀ nam
     × (limit < 2 ^ 16)
 
 abbrev μ-loop : tie.MeasureT-loop
-μ-loop m self₀ running limit mode todo₀ at₀ steps₀ end₀ value₀ named₀ self todo at steps end value named = todo
+μ-loop m self₀ limit mode hidden verdict todo₀ at₀ steps₀ end₀ value₀ named₀ self todo at steps end value named = todo
 
 -- Where the arms of a box that does not end the run meet: it goes on in what was stored.
 meets : (c : tie.At-match-came Inv-loop μ-loop) → let at-loop = c .before .before .before .before .before .before .before .before .before in
-    let l = at-loop .loop in let r = at-loop .before .before .before .args .t1 in
+    let l = at-loop .loop in let r = at-loop .before .before .before .before .before .before .args .t1 in
     (step (r .table) (seen (l .self) (l .at) (l .steps)) ≡ goesOn (seen (c .match .self) (c .match .at) (l .steps + 1))) × Stored r (c .match .self)
 unfolding settle
 meets c =
     let at-loop = c .before .before .before .before .before .before .before .before .before in
     let l = at-loop .loop in
-    let r = at-loop .before .before .before .args .t1 in
+    let r = at-loop .before .before .before .before .before .before .args .t1 in
     let stored = l .inv .2 in
     let box = c .before .before .before .before .before .box-at in
     let done = c .before .run-box in
@@ -56,13 +57,13 @@ meets c =
     (c .match .came)
 
 -- Where the loop is left: no box is to run, a halt gives a value, a decision or a halt a notice, or the limit is reached.
-over : (c : tie.Left-loop Inv-loop μ-loop) → let q = c .loop-test in let a = c .before .before .before .before .args in
-    CameTo (a .t1 .table) (cond (isRunning (a .t1)) (a .m) 0) (runIn (a .t1)) (q .self) (q .at) (q .end) (q .value) (q .named) (q .steps) × Stored (a .t1) (q .self)
+over : (c : tie.Left-loop Inv-loop μ-loop) → let q = c .loop-test in let a = c .before .before .before .before .before .before .before .args in
+    CameTo (a .t1 .table) (c .before .before .amount .result) (runIn (a .t1)) (q .self) (q .at) (q .end) (q .value) (q .named) (q .steps) × Stored (a .t1) (q .self)
 unfolding settle
 over c =
     let l = c .before .loop in
     let q = c .loop-test in
-    let r = c .before .before .before .before .args .t1 in
+    let r = c .before .before .before .before .before .before .before .args .t1 in
     let stored = l .inv .2 in
     ⊎-elim
     (λ w. (
@@ -103,6 +104,15 @@ cast-limit c = search needs
 mode-of-requires : tie.Need-mode-of-requires Inv-loop μ-loop
 mode-of-requires c κs = search needs
 
+hides-requires : tie.Need-hides-requires Inv-loop μ-loop
+hides-requires c κs = search needs
+
+choose-requires : tie.Need-choose-requires Inv-loop μ-loop
+choose-requires c κs = search needs
+
+check-advance-requires : tie.Need-check-advance-requires Inv-loop μ-loop
+check-advance-requires c κs = search needs
+
 amount-requires : tie.Need-amount-requires Inv-loop μ-loop
 amount-requires c κs = search needs
 
@@ -111,11 +121,11 @@ cast-steps c = search needs
 
 loop-holds : tie.Need-loop-holds Inv-loop μ-loop
 loop-holds c = (
-  ap (λ (n : ℕ). run (c .before .before .args .t1 .table) n (going (runIn (c .before .before .args .t1)))) (sym (c .amount .ensures)),
+  refl,
   omega arith,
   refl,
   refl,
-  c .before .mode-of .ensures,
+  c .before .before .before .before .mode-of .ensures,
   search needs,
   refl,
   refl,
@@ -188,16 +198,29 @@ cast-self c =
     let below = ⊎-elim (λ w. w .1) (λ w. absurd (no-ending (w .0) (sym (w .1) ∙ c .before .if2 .taken))) (over (c .before .before) .0) in
     search needs
 
+kept-requires : tie.Need-kept-requires Inv-loop μ-loop
+kept-requires c κs = search needs
+
 tell-requires : tie.Need-tell-requires Inv-loop μ-loop
 tell-requires c κs = search needs
 
 returns : tie.Need-returns Inv-loop μ-loop
 returns c =
     let came = over (c .before .before) in
-    advance-came _ _ (c .before .before .loop-test .self) _ _ _ _ _ _ _ (came .1)
+    let at-loop = c .before .before .before in
+    let verdict = at-loop .before .before .check-advance in
+    let chosen = at-loop .before .before .before .choose in
+    let hidden = at-loop .before .before .before .before .hides in
+    let mode = at-loop .before .before .before .before .before .mode-of in
+    let r = at-loop .before .before .before .before .before .before .args .t1 in
+    let hides-as = hidden .ensures ∙ ap hides (mode .ensures) in
+    let least = chosen .ensures ∙ ap (λ (b : Bool). cond b (r .limit) 0) hides-as in
+    let left = c .before .before .loop-test in
+    advance-came _ _ r (left .self) _ _ _ _ _ _ _ (came .1) (came .0)
     (λ e. ⊎-elim (λ w. w .2) (λ w. absurd (w .0 .left e)) (c .before .if2 .came))
-    (λ n. ⊎-elim (λ w. absurd (n (w .0 .taken))) (λ w. w .3) (c .before .if2 .came))
-    _ refl (came .0) (c .tell .ensures)
+    (hidden .result) hides-as
+    (λ n. ⊎-elim (λ w. absurd (n (w .0 .taken))) (λ w. w .4 ∙ ap (λ (k : Remains). endsWith (left .self) k (left .value)) (w .3 .ensures)) (c .before .if2 .came))
+    (verdict .result) (verdict .ensures (standingOf r) refl (sym least)) (at-loop .before .amount .ensures) (c .tell .ensures)
 
 pub advance-spec : {M : Type 1} → statement M
 advance-spec =
@@ -207,6 +230,9 @@ advance-spec =
     μ-loop
     cast-limit
     mode-of-requires
+    hides-requires
+    choose-requires
+    check-advance-requires
     amount-requires
     cast-steps
     loop-holds
@@ -226,5 +252,6 @@ advance-spec =
     loop-less
     loop-again
     cast-self
+    kept-requires
     tell-requires
     returns)

@@ -1,7 +1,7 @@
 -- Where the rules let it pass, the file is put into the buffer; else the buffer stays.
 use mathlib.Core.Path.{refl, sym, _∙_}
 use borrow.Author.Needs.{needs}
-use Rattle.runner.specs.State.{isRunning, isEnded}
+use Rattle.runner.specs.State.{standingOf}
 use Rattle.runner.proofs.Outcomes.{write-back-accepts, write-back-refuses}
 use Rattle.runner.proofs.Runner.write_back.Statement.{statement}
 use Rattle.runner.proofs.Runner.write_back.Tie as tie
@@ -35,7 +35,7 @@ returns c =
     let rules = told .before .before in
     let r = rules .before .before .before .args .t1 in
     write-back-accepts r (c .file-length .result) _ _
-    (sym (told .enum-told .given .1) ∙ rules .check-write-back .ensures _ (isRunning r) (isEnded r) refl)
+    (sym (told .enum-told .given .1) ∙ rules .check-write-back .ensures _ (standingOf r) refl refl)
     (c .file-length .ensures .0) (put .put-file .ensures)
 
 -- src/lib.rt:285:5
@@ -43,7 +43,7 @@ returns-2 : tie.Need-returns-2
 returns-2 c =
     let rules = c .before .before .before in
     let r = rules .before .before .before .args .t1 in
-    write-back-refuses r (rules .check-write-back .result) _ _ (rules .check-write-back .ensures _ (isRunning r) (isEnded r) refl)
+    write-back-refuses r (rules .check-write-back .result) _ _ (rules .check-write-back .ensures _ (standingOf r) refl refl)
     (c .before .verdict .given .1)
 
 pub write-back-spec : {M : Type 1} → statement M
