@@ -1,2 +1,2 @@
--- The rules of the marks.
+-- The modes and the rules of the marks.
 pub mod Marks

@@ -310,6 +310,7 @@ impl Runner {
     }
 }
 
+// One of two numbers.
 fn choose(b: bool, yes: u32, no: u32) -> u32
     ensures { λ r. ⌜ r ≡ cond b yes no ⌝ }
 {
