@@ -1,12 +1,16 @@
--- What an accepted call does, which one runs boxes, and that a run under way is not answered. Assumes nothing.
+-- What an accepted call does, which one runs boxes and what it tells, and that a run under way is not answered. Assumes nothing.
 use Prim.Native.Nat.{ℕ}
 use mathlib.Core.Path.{_≡_, ap, subst}
+use mathlib.Core.Bool.{cond}
+use Rattle.marks.specs.Marks.{hides}
+use Rattle.marks.specs.declared.Mode.{Mode}
+use Rattle.machine.specs.Run.{Progress, going, over}
 use Rattle.calls.specs.Calls.{Call, load, begin, advance, answer, abandon, writeBack, check}
 use Rattle.calls.specs.declared.Verdict.{Verdict}
 use Rattle.calls.specs.declared.Verdict.the-variants.{Done}
 use Rattle.calls.proofs.Permits.{not-done}
 use Rattle.runner.specs.declared.Runner.{Runner}
-use Rattle.runner.specs.Outcomes.{runs, effect, outcomeBy, call}
+use Rattle.runner.specs.Outcomes.{Reply, running, ended, runs, effect, progressReply, outcomeBy, call}
 use Rattle.claims.specs.Lists.{Accepted}
 use Rattle.claims.proofs.Branches.{clash}
 
@@ -32,3 +36,10 @@ runs-only (writeBack b) m e = clash cc
 
 pub runs-accepted : (c : Call) (m : ℕ) (r : Runner) → effect c ≡ runs m → Accepted c r → Accepted (advance m) r
 runs-accepted c m r e a = subst (λ (x : Call). Accepted x r) (runs-only c m e) a
+
+-- It tells "running" or "ended".
+pub progress-by : (Good : Reply → Type 0) → ((steps : ℕ) → Good (running steps)) → ((steps : ℕ) → Good (ended steps)) → (m : Mode) (p : Progress)
+    → Good (progressReply m p)
+unfolding progressReply
+progress-by Good on off m (going q) = on (q .steps)
+progress-by Good on off m (over e steps) = off (cond (hides m) 0 steps)

@@ -2,20 +2,15 @@
 use Prim.Native.Nat.{ℕ}
 use mathlib.Core.Path.{_≡_, _∙_}
 use mathlib.Core.List.{List, List·Memᴰ}
-use Rattle.marks.specs.declared.Mode.{Mode}
-use Rattle.machine.specs.Run.{Ending, Progress, going, over}
+use Rattle.machine.specs.Run.{Ending, over}
 use Rattle.calls.specs.Calls.{Call}
 use Rattle.runner.specs.declared.Runner.{Runner}
 use Rattle.runner.specs.State.{ran}
-use Rattle.runner.specs.Outcomes.{Reply, ending, Told, progressReply}
+use Rattle.runner.specs.Outcomes.{Reply, ending, Told}
 use Rattle.claims.specs.Lists.{tells, AllContinue}
 use Rattle.claims.proofs.Branches.{clash}
+use Rattle.claims.proofs.Accepting.{progress-by}
 use Rattle.claims.proofs.Continuing.{Replied, did, holds, came, ended-so, put, turned, replied-from}
-
-no-progress : (m : Mode) (p : Progress) (e : Ending) (steps : ℕ) → progressReply m p ≡ ending e steps → ⊥
-unfolding progressReply
-no-progress m (going q) e steps h = clash cc
-no-progress m (over k n) e steps h = clash cc
 
 module _ (r : Runner) (on : r .state ≡ 1) (e : Ending) (steps : ℕ) where
   ending-once : {k k′ : Ending} {n n′ : ℕ} → ending k n ≡ ending k′ n′ → over k n ≡ over k′ n′
@@ -24,7 +19,7 @@ module _ (r : Runner) (on : r .state ≡ 1) (e : Ending) (steps : ℕ) where
   over-with : {x : Reply} → Replied r on x → x ≡ ending e steps → (boxes : ℕ) × (ran boxes r ≡ over e steps)
   over-with did h = clash cc
   over-with holds h = clash cc
-  over-with (came n l) h = absurd (no-progress _ (ran n r) e steps h)
+  over-with (came n l) h = absurd (progress-by (λ x. x ≡ ending e steps → ⊥) (λ s z. clash cc) (λ s z. clash cc) _ (ran n r) h)
   over-with (ended-so n d) h = (n, d ∙ ending-once h)
   over-with put h = clash cc
   over-with turned h = clash cc

@@ -6,16 +6,17 @@ use mathlib.Core.List.{List, [], _∷_, List·Memᴰ, List·Memᴰ·cases-cons, 
 use mathlib.Core.Logic.{⊎-elim}
 use mathlib.Core.Bool.{true, false, cond, false≢true}
 use native.Mathlib.Omega.{arith}
-use borrow.Author.Tests.{lt-ltb, le-ltb}
+use lib.Dec.{ltb}
+use borrow.Author.Tests.{lt-ltb, le-ltb, ltb-false}
 use Rattle.format.specs.File.{refusal}
 use Rattle.marks.specs.Marks.{modeOf, hides}
 use Rattle.marks.specs.declared.Mode.{Mode}
 use Rattle.machine.specs.Run.{Run, Ending, valued, notice, spent, Progress, going, over, run, kept}
 use Rattle.machine.proofs.Runs.{run-add, over-twice, AsBegun, run-as-begun, kept-by}
-use Rattle.calls.specs.Calls.{Call, load, begin, advance, answer, abandon, writeBack, check}
+use Rattle.calls.specs.Calls.{Call, load, begin, advance, answer, abandon, writeBack, refuseIf, check}
 use Rattle.calls.specs.declared.Verdict.{Verdict}
 use Rattle.calls.specs.declared.Verdict.the-variants.{Done, Refused}
-use Rattle.calls.proofs.Permits.{not-done, advance-enough}
+use Rattle.calls.proofs.Permits.{not-done, passed, advance-enough}
 use Rattle.runner.specs.declared.Runner.{Runner}
 use Rattle.runner.specs.State.{isRunning, isEnded, leastIn, standingOf, endingIn, runIn, endedWith, ran, resumed}
 use Rattle.runner.specs.Outcomes.{Reply, done, chart, ending, wrote, refused, Told, Outcome, Effect, runs, keeps, begins, drops, replaces, effect, after, progressReply, says, outcomeBy, call}
@@ -97,15 +98,18 @@ module _ (r : Runner) (on : r .state ≡ 1) where
   pub ran-over : (n : ℕ) → Over (inside n) → Over (ran n r)
   ran-over n o = kept-by Over mode (inside n) o (λ h. record { ending = notice 0; steps = 0; is = refl })
 
+  -- What is kept is what the run has come to inside, but where it is what hiding leaves.
+  inside-is : (n : ℕ) (p : Progress) → (over (notice 0) 0 ≡ p → ⊥) → ran n r ≡ p → inside n ≡ p
+  inside-is n p other e = kept-by (λ (x : Progress). x ≡ p → inside n ≡ p) mode (inside n) (λ d. d) (λ h d. absurd (other d)) e
+
   going-inside : (n : ℕ) (q : Run) → ran n r ≡ going q → inside n ≡ going q
-  going-inside n q e = kept-by (λ (p : Progress). p ≡ going q → inside n ≡ going q) mode (inside n) (λ d. d) (λ h d. clash cc) e
+  going-inside n q e = inside-is n (going q) (λ d. clash cc) e
 
   as-begun : (n : ℕ) (q : Run) → ran n r ≡ going q → (q .mode ≡ r .mode) × (q .limit ≡ r .limit)
   as-begun n q e = subst (AsBegun (runIn r)) (going-inside n q e) (run-as-begun (r .table) n (runIn r))
 
   pub value-inside : (n v steps : ℕ) → ran n r ≡ over (valued v) steps → inside n ≡ over (valued v) steps
-  value-inside n v steps e =
-      kept-by (λ (p : Progress). p ≡ over (valued v) steps → inside n ≡ over (valued v) steps) mode (inside n) (λ d. d) (λ h d. clash cc) e
+  value-inside n v steps e = inside-is n (over (valued v) steps) (λ d. clash cc) e
 
   going-ran : (m : ℕ) (q : Run) → ran m (resumed (going q) r) ≡ kept (modeOf (q .mode)) (run (r .table) m (going q))
   unfolding resumed
@@ -154,31 +158,28 @@ module _ (r : Runner) (on : r .state ≡ 1) where
       by (going q) e d = call-done (advance m) (resumed (going q) r) d ∙ advanced-going m n q e
       by (over k steps) e d = absurd (over-does-not-advance m k steps d)
 
-  -- It is where the run goes on and the amount is enough.
-  pub advance-accepts : (m n : ℕ) → isRunning (resumed (ran n r) r) ≡ true → leastIn r ≤ m → Accepted (advance m) (resumed (ran n r) r)
+  -- While the run goes on, an advance is refused where it asks for too little, and else accepted.
+  advance-checked : (m n : ℕ) → isRunning (resumed (ran n r) r) ≡ true
+      → check (advance m) (standingOf (resumed (ran n r) r)) ≡ refuseIf (ltb m (leastIn r)) 13 Done
   unfolding check
-  advance-accepts m n on enough = by (ran n r) refl on
+  advance-checked m n on = by (ran n r) refl on
     where
-      by : (p : Progress) → ran n r ≡ p → isRunning (resumed p r) ≡ true → Accepted (advance m) (resumed p r)
-      by (going q) e k = let l = least-stays n q e in rw (k, le-ltb m (leastIn (resumed (going q) r)) (omega arith))
+      by : (p : Progress) → ran n r ≡ p → isRunning (resumed p r) ≡ true → check (advance m) (standingOf (resumed p r)) ≡ refuseIf (ltb m (leastIn r)) 13 Done
+      by (going q) e k = rw (k, least-stays n q e)
       by (over f s) e k = absurd (false≢true (sym (over-rests f s) ∙ k))
+
+  pub advance-accepts : (m n : ℕ) → isRunning (resumed (ran n r) r) ≡ true → leastIn r ≤ m → Accepted (advance m) (resumed (ran n r) r)
+  advance-accepts m n on enough = advance-checked m n on ∙ rw (le-ltb m (leastIn r) enough)
 
   pub advance-less : (m n : ℕ) → isRunning (resumed (ran n r) r) ≡ true → m < leastIn r
       → call (advance m) (resumed (ran n r) r) ≡ record { told = record { reply = refused 13 0; buffer = [] }; next = resumed (ran n r) r }
-  unfolding call check outcomeBy
-  advance-less m n on less = by (ran n r) refl on
-    where
-      by : (p : Progress) → ran n r ≡ p → isRunning (resumed p r) ≡ true
-          → call (advance m) (resumed p r) ≡ record { told = record { reply = refused 13 0; buffer = [] }; next = resumed p r }
-      by (going q) e k = let l = least-stays n q e in rw (k, lt-ltb m (leastIn (resumed (going q) r)) (omega arith)) refl
-      by (over f s) e k = absurd (false≢true (sym (over-rests f s) ∙ k))
+  unfolding call outcomeBy
+  advance-less m n on less = rw (advance-checked m n on, lt-ltb m (leastIn r) less) refl
 
   pub advance-asked : (m n : ℕ) → Accepted (advance m) (resumed (ran n r) r) → leastIn r ≤ m
-  advance-asked m n a = by (ran n r) refl a
-    where
-      by : (p : Progress) → ran n r ≡ p → Accepted (advance m) (resumed p r) → leastIn r ≤ m
-      by (going q) e d = let l = least-stays n q e in let f = advance-enough m _ d .1 in omega arith
-      by (over f s) e d = absurd (over-does-not-advance m f s d)
+  advance-asked m n a =
+      let on = advance-enough m (standingOf (resumed (ran n r) r)) a .0 in
+      ltb-false m (leastIn r) (passed (ltb m (leastIn r)) 13 (sym (advance-checked m n on) ∙ a) .0)
 
   -- So many boxes lead to a runner: as many as were asked for, where no counts are hidden.
   pub record Ran (wanted : ℕ) (next : Runner) : Type 0 where

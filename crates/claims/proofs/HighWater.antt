@@ -38,9 +38,10 @@ kept-hidden m h (over (valued v) steps) = tt
 kept-hidden m h (over (notice named) steps) = rw h (refl, refl)
 kept-hidden m h (over spent steps) = rw h (refl, refl)
 
-over-hidden : (m : Mode) → hides m ≡ true → (p : Progress) → Over p → CountsValuesOnly (progressReply m p)
+-- What advance tells of a run that is over there.
+over-told : (m : Mode) → hides m ≡ true → (p : Progress) → Over p → progressReply m p ≡ ended 0
 unfolding progressReply
-over-hidden m h p o = rw (o .is, h) refl
+over-told m h p o = rw (o .is, h) refl
 
 pub high-water-tells : HighWaterTells
 high-water-tells r mode inputs allowed limit a cs q t m two = by (replied-from s refl (begun r mode inputs allowed limit a) cs q t m)
@@ -54,7 +55,8 @@ high-water-tells r mode inputs allowed limit a cs q t m two = by (replied-from s
     by : {x : Reply} → Replied s refl x → CountsValuesOnly x
     by did = tt
     by holds = tt
-    by (came n l) = over-hidden (modeOf mode) hidden (ran n s) (reaches r mode inputs allowed limit a n (rw hidden at l))
+    by (came n l) =
+        subst CountsValuesOnly (sym (over-told (modeOf mode) hidden (ran n s) (reaches r mode inputs allowed limit a n (rw hidden at l)))) refl
     by (ended-so n d) = subst Hidden d (kept-hidden (modeOf mode) hidden (run (r .table) n (going (runIn s))))
     by put = tt
     by turned = tt
@@ -85,10 +87,6 @@ module _ (r : Runner) (mode : ℕ) (inputs : List ℕ) (allowed limit : ℕ) (a 
   least : leastIn first ≡ effective limit
   least = rw (high-hides mode two)
 
-  over-told : (p : Progress) → Over p → progressReply (modeOf mode) p ≡ ended 0
-  unfolding progressReply
-  over-told p o = rw (o .is, high-hides mode two) refl
-
   ends-at-once : isRunning (resumed (ran n first) first) ≡ true → EndsAtOnce (effective limit) (resumed (ran n first) first) m
   unfolding final
   ends-at-once on =
@@ -101,7 +99,7 @@ module _ (r : Runner) (mode : ℕ) (inputs : List ℕ) (allowed limit : ℕ) (a 
             let does = advance-does first refl m n c in
             let asked = advance-asked first refl m n c in
             let o = reaches r mode inputs allowed limit a (n + m) (omega arith) in (
-              ap (λ (x : Outcome). x .told) does ∙ ap (λ (x : Reply). record { reply = x; buffer = [] }) (over-told (ran (n + m) first) o),
+              ap (λ (x : Outcome). x .told) does ∙ ap (λ (x : Reply). record { reply = x; buffer = [] }) (over-told (modeOf mode) (high-hides mode two) (ran (n + m) first) o),
               over-ends first refl (ran (n + m) first) (ap (λ (x : Outcome). x .next) does) o,
             );
       }

@@ -25,6 +25,7 @@ use Rattle.runner.specs.Outcomes.{Reply, running, ended, refused, Outcome, lent
 use Rattle.claims.specs.Lists.{Accepted, final}
 use Rattle.claims.specs.Runs.{NoOperationStops, RefusalChangesNothing, NotHighWater, AdvancesJoin, CountsBoxes, LimitEnds, OneAdvanceEnds, TellsWholeRun, stepsTold, WithinLimit, Cleared}
 use Rattle.claims.proofs.Branches.{clash}
+use Rattle.claims.proofs.Accepting.{progress-by}
 use Rattle.claims.proofs.Counting.{After, ended-within, counted-below, run-after, Over, run-ends}
 use Rattle.claims.proofs.Continuing.{over-answers, over-tells, answered-over, ran-over, ran-still, advanced, advance-does, advance-accepts}
 use Rattle.claims.proofs.Continuing.{Replied, did, holds, came, ended-so, put, turned, from-start, final-from, replied-from}
@@ -32,16 +33,12 @@ use Rattle.claims.proofs.Reachable.{sound}
 use Rattle.claims.proofs.Secrecy.{begin-starts, started}
 
 -- A call that is not refused tells no refusal.
-progress-not-refused : (m : Mode) (p : Progress) (number detail : ℕ) → progressReply m p ≡ refused number detail → ⊥
-unfolding progressReply
-progress-not-refused m (going q) n d e = clash cc
-progress-not-refused m (over k s) n d e = clash cc
-
 not-refused : (c : Call) (r : Runner) (number detail : ℕ) → says c r ≡ refused number detail → ⊥
 unfolding says
 not-refused (load f) r n d e = clash cc
 not-refused (begin m i a l) r n d e = clash cc
-not-refused (advance m) r n d e = progress-not-refused (modeOf (r .mode)) (ran m r) n d e
+not-refused (advance m) r n d e =
+    progress-by (λ x. x ≡ refused n d → ⊥) (λ s z. clash cc) (λ s z. clash cc) (modeOf (r .mode)) (ran m r) e
 not-refused answer r n d e = clash cc
 not-refused abandon r n d e = clash cc
 not-refused (writeBack b) r n d e = clash cc
