@@ -38,6 +38,11 @@ local function trailing(x)
   return n
 end
 
+-- Whether an operation reads left and whether it reads right.
+local function reads(edition, op)
+  return op ~= 0, (op >= 2 and op <= 8) or (op == 11 and edition == 2)
+end
+
 -- Load's input checks; the chart, or a refusal's number and detail.
 local function load_chart(file)
   local size = #file
@@ -47,8 +52,8 @@ local function load_chart(file)
     for i = 1, 510 do sum = sum + i * file:byte(512 * j + i) end
     if sum % 65536 ~= file:byte(512 * j + 511) + 256 * file:byte(512 * j + 512) then return nil, 2, j end
   end
-  if file:sub(1, 5) ~= "FLOW\1" then return nil, 3, 0 end
-  local k, n, first = file:byte(6, 8)
+  local edition, k, n, first = file:byte(5, 8)
+  if file:sub(1, 4) ~= "FLOW" or (edition ~= 1 and edition ~= 2) then return nil, 3, 0 end
   if k > 16 or n < 1 or n > 204 or first >= n or file:sub(9, 510):find("[^%z]") then return nil, 4, 0 end
   if size ~= 512 * (1 + floor((n + 50) / 51)) then return nil, 5, 0 end
   local function readable(v) return v < k or (v >= 16 and v < 32) end
@@ -63,9 +68,8 @@ local function load_chart(file)
       right = zeros(1)
     elseif b[1] == 1 then
       local op = b[3]
-      local left = op ~= 0
-      local both = op >= 2 and op <= 8
-      right = b[2] >= 16 and b[2] < 32 and op <= 11 and operand(left, b[4]) and operand(both, b[5]) and b[6] < n and (op == 0 or zeros(7))
+      local reads_left, reads_right = reads(edition, op)
+      right = b[2] >= 16 and b[2] < 32 and op <= 11 and operand(reads_left, b[4]) and operand(reads_right, b[5]) and b[6] < n and (op == 0 or zeros(7))
     elseif b[1] == 2 then
       right = b[2] == 0 and b[3] <= 2 and readable(b[4]) and readable(b[5]) and b[6] < n and b[7] < n and zeros(8)
     else
@@ -74,7 +78,7 @@ local function load_chart(file)
     if not right then return nil, 6, p end
     boxes[p] = { b[1], b[2], b[3], b[4], b[5], b[6], b[7], b[7] + 256 * b[8] + 65536 * b[9] + 16777216 * b[10] }
   end
-  return { k = k, n = n, first = first, boxes = boxes }
+  return { edition = edition, k = k, n = n, first = first, boxes = boxes }
 end
 
 -- A mark is a set of withheld inputs: bit j is input j, 0 is no mark.
@@ -83,7 +87,7 @@ local vars, marks = {}, {}
 -- The ending, the value or the set that a notice names, and the steps.
 local function run(chart, mode, limit)
   local at, steps, counter = chart.first, 0, 0
-  local boxes = chart.boxes
+  local boxes, edition = chart.boxes, chart.edition
   while true do
     local b = boxes[at]
     local kind = b[1]
@@ -91,13 +95,14 @@ local function run(chart, mode, limit)
     if kind == 1 then
       local op, i, j, t = b[3], b[4], b[5], b[2]
       local x, y = vars[i], vars[j]
+      local reads_left, reads_right = reads(edition, op)
       local read = 0
-      if op >= 2 and op <= 8 then read = bor(marks[i], marks[j]) elseif op ~= 0 then read = marks[i] end
+      if reads_right then read = bor(marks[i], marks[j]) elseif reads_left then read = marks[i] end
       local v
       if op == 0 then v = b[8]
       elseif op == 1 then v = x
-      elseif op == 2 then v = (x + y) % 4294967296
-      elseif op == 3 then v = (x - y) % 4294967296
+      elseif op == 2 then v = edition == 2 and min(x + y, 4294967295) or (x + y) % 4294967296
+      elseif op == 3 then v = edition == 2 and max(x - y, 0) or (x - y) % 4294967296
       elseif op == 4 then v = product(x, y)
       elseif op == 5 then v = y == 0 and 0 or floor(x / y)
       elseif op == 6 then v = y == 0 and x or x % y
@@ -105,7 +110,7 @@ local function run(chart, mode, limit)
       elseif op == 8 then v = max(x, y)
       elseif op == 9 then v = ones(x)
       elseif op == 10 then v = leading(x)
-      else v = trailing(x) end
+      else v = edition == 2 and min(trailing(x), y) or trailing(x) end
       vars[t] = v
       if mode == 1 then marks[t] = read elseif mode == 2 then marks[t] = bor(marks[t], read) end
       at = b[6]

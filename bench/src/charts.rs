@@ -1,4 +1,5 @@
 //! Chart files: the boxes of a chart, sealed in blocks, and random ones.
+use crate::plain::reads;
 use crate::random::Random;
 
 pub type Box10 = [u8; 10];
@@ -26,10 +27,10 @@ pub fn seal(file: &mut [u8]) {
     }
 }
 
-/// The file of a chart of k inputs whose first box is `first`.
-pub fn file(k: u8, first: u8, boxes: &[Box10]) -> Vec<u8> {
+/// The file of a chart of an edition and k inputs whose first box is `first`.
+pub fn file(edition: u8, k: u8, first: u8, boxes: &[Box10]) -> Vec<u8> {
     let mut file = vec![0; 512 * (1 + boxes.len().div_ceil(51))];
-    file[..8].copy_from_slice(&[b'F', b'L', b'O', b'W', 1, k, boxes.len() as u8, first]);
+    file[..8].copy_from_slice(&[b'F', b'L', b'O', b'W', edition, k, boxes.len() as u8, first]);
     for (p, b) in boxes.iter().enumerate() {
         let at = 512 * (1 + p / 51) + 10 * (p % 51);
         file[at..at + 10].copy_from_slice(b);
@@ -38,94 +39,116 @@ pub fn file(k: u8, first: u8, boxes: &[Box10]) -> Vec<u8> {
     file
 }
 
-/// Chart A of the scope document.
+/// Chart A of the scope document, of edition 1.
 pub fn chart_a() -> Vec<u8> {
-    file(2, 0, &[assign(31, 1, 0, 0, 1), assign(31, 1, 1, 0, 2), HALT])
+    file(1, 2, 0, &[assign(31, 1, 0, 0, 1), assign(31, 1, 1, 0, 2), HALT])
 }
 
-/// Adds input 0 to 31 as often as variable 17 counts down, for ever: two assignments and a decision a turn.
-pub fn counting() -> Vec<u8> {
-    file(
-        2,
-        0,
-        &[constant(18, 1, 1), assign(31, 2, 31, 0, 2), assign(17, 3, 17, 18, 3), decide(0, 17, 16, 4, 1), HALT],
-    )
+/// Adds input 0 to 31 as often as variable 17 counts down from the greatest number, which no limit lets it finish: two assignments and a decision a turn.
+pub fn counting(edition: u8) -> Vec<u8> {
+    let boxes = [
+        constant(17, u32::MAX, 1),
+        constant(18, 1, 2),
+        assign(31, 2, 31, 0, 3),
+        assign(17, 3, 17, 18, 4),
+        decide(0, 17, 16, 5, 2),
+        HALT,
+    ];
+    file(edition, 2, 0, &boxes)
 }
 
 /// Every operation in a circle.
-pub fn operations() -> Vec<u8> {
+pub fn operations(edition: u8) -> Vec<u8> {
     let mut boxes = vec![constant(18, 1_000_003, 1)];
     for op in 1..12u8 {
-        let right = if matches!(op, 1 | 9 | 10 | 11) { 0 } else { 18 };
+        let right = if reads(edition, op).1 { 18 } else { 0 };
         let left = if op == 1 { 0 } else { 19 };
         boxes.push(assign(19 + op % 2, op, left, right, op + 1));
     }
     boxes.push(assign(19, 4, 20, 18, 13));
     boxes.push(assign(19, 2, 19, 0, 14));
     boxes.push(assign(31, 2, 31, 19, 1));
-    file(2, 0, &boxes)
+    file(edition, 2, 0, &boxes)
 }
 
 /// Decisions in a circle, some taken and some not.
-pub fn decisions() -> Vec<u8> {
+pub fn decisions(edition: u8) -> Vec<u8> {
     let mut boxes = Vec::new();
     for p in 0..30u8 {
         let next = (p + 1) % 30;
         boxes.push(if p % 10 == 9 { assign(16, 2, 16, 1, next) } else { decide(p % 3, 16, 17, next, next) });
     }
-    file(2, 0, &boxes)
+    file(edition, 2, 0, &boxes)
 }
 
-/// A chart of 16 inputs that adds them all.
+/// A chart of edition 1 and 16 inputs that adds them all.
 pub fn sixteen() -> Vec<u8> {
     let mut boxes: Vec<Box10> = (0..16u8).map(|j| assign(31, 2, 31, j, j + 1)).collect();
     boxes.push(HALT);
-    file(16, 0, &boxes)
+    file(1, 16, 0, &boxes)
 }
 
-/// A straight chart of so many boxes, the halt included.
+/// A straight chart of edition 1 and so many boxes, the halt included.
 pub fn straight(n: usize) -> Vec<u8> {
     let mut boxes: Vec<Box10> = (1..n).map(|p| assign(31, 2, 31, 0, p as u8)).collect();
     boxes.push(HALT);
-    file(2, 0, &boxes)
+    file(1, 2, 0, &boxes)
+}
+
+/// A variable 16 to 31, mostly one of four, so that what a box gives is read and answered.
+fn variable(random: &mut Random) -> u8 {
+    match random.below(6) {
+        0..=1 => 31,
+        2 => 16 + random.below(16) as u8,
+        _ => 16 + random.below(3) as u8,
+    }
 }
 
 fn operand(random: &mut Random, k: u8) -> u8 {
     if k > 0 && random.one_in(2) {
         random.below(u32::from(k)) as u8
     } else {
-        16 + random.below(16) as u8
+        variable(random)
     }
 }
 
-fn random_box(random: &mut Random, k: u8, n: u8) -> Box10 {
-    let mut next = || random.below(u32::from(n)) as u8;
+/// Box p, followed by the next one or by any.
+fn random_box(random: &mut Random, edition: u8, k: u8, n: u8, p: u8) -> Box10 {
+    let mut next = || if random.one_in(2) { random.below(u32::from(n)) as u8 } else { (p + 1) % n };
     let (a, b) = (next(), next());
     match random.below(10) {
         0 => HALT,
         1..=3 => decide(random.below(3) as u8, operand(random, k), operand(random, k), a, b),
         _ => {
-            let target = 16 + random.below(16) as u8;
+            let target = variable(random);
             let op = random.below(12) as u8;
-            match op {
-                0 => constant(target, random.number(), a),
-                1 | 9 | 10 | 11 => assign(target, op, operand(random, k), 0, a),
+            match reads(edition, op) {
+                (false, _) => constant(target, random.number(), a),
+                (_, false) => assign(target, op, operand(random, k), 0, a),
                 _ => assign(target, op, operand(random, k), operand(random, k), a),
             }
         }
     }
 }
 
-/// A chart that load accepts.
+/// A chart that load accepts, of either edition.
 pub fn random_chart(random: &mut Random) -> Vec<u8> {
+    let edition = 1 + random.below(2) as u8;
     let k = random.below(17) as u8;
     let n = if random.one_in(2) { 1 + random.below(12) } else { 1 + random.below(204) } as u8;
-    let boxes: Vec<Box10> = (0..n).map(|_| random_box(random, k, n)).collect();
-    file(k, random.below(u32::from(n)) as u8, &boxes)
+    let boxes: Vec<Box10> = (0..n).map(|p| random_box(random, edition, k, n, p)).collect();
+    file(edition, k, random.below(u32::from(n)) as u8, &boxes)
 }
 
-/// Damage of one kind or another, the checks mended or not.
+/// Damage of one kind or another, the checks mended or not. One in four draws the edition anew, from 0 to 3, and mostly mends the checks with nothing else
+/// damaged.
 pub fn damage(random: &mut Random, file: &mut Vec<u8>) {
+    if random.one_in(4) {
+        file[4] = random.below(4) as u8;
+        if !random.one_in(3) {
+            return seal(file);
+        }
+    }
     match random.below(6) {
         0 => file.truncate(random.below(file.len() as u32 + 1) as usize),
         1 => file.resize(512 * random.below(7) as usize, 0),

@@ -29,15 +29,22 @@ pub enum State {
 /// An ending: its state, its value and the set that it names, 0 where there is none.
 type Ending = (State, u32, u16);
 
+/// What block 0 says of its chart; a new runner's has no boxes.
+#[derive(Clone, Copy, Default)]
+pub struct Header {
+    edition: u8,
+    inputs: u8,
+    boxes: u8,
+    first: u8,
+}
+
 /// A mark is a set of withheld inputs, 0 where there is none; `named` is the set of the notice told, 0 without one.
 pub struct Runner {
     table: [u8; 2040],
     vars: [u32; 32],
     marks: [u16; 32],
     counter: u16,
-    inputs: u8,
-    boxes: u8,
-    first: u8,
+    header: Header,
     mode: u8,
     at: u8,
     limit: u32,
@@ -55,10 +62,12 @@ fn is_sealed(block: &[u8]) -> bool {
     check_of(block) == u32::from(block[510]) + 256 * u32::from(block[511])
 }
 
-fn reads(op: u8) -> (bool, bool) {
+/// Whether an operation reads left and whether it reads right.
+pub fn reads(edition: u8, op: u8) -> (bool, bool) {
     match op {
         0 => (false, false),
-        1 | 9 | 10 | 11 => (true, false),
+        1 | 9 | 10 => (true, false),
+        11 => (true, edition == 2),
         _ => (true, true),
     }
 }
@@ -67,11 +76,12 @@ fn readable(v: u8, k: u8) -> bool {
     v < k || (16..32).contains(&v)
 }
 
-fn is_box(b: &[u8], k: u8, n: u8) -> bool {
+fn is_box(b: &[u8], header: Header) -> bool {
+    let Header { edition, inputs: k, boxes: n, .. } = header;
     let operand = |read: bool, v: u8| if read { readable(v, k) } else { v == 0 };
     match b[0] {
         1 => {
-            let (left, right) = reads(b[2]);
+            let (left, right) = reads(edition, b[2]);
             (16..32).contains(&b[1])
                 && b[2] <= 11
                 && operand(left, b[3])
@@ -90,19 +100,20 @@ fn place(file: &[u8], p: usize) -> &[u8] {
     &file[at..at + 10]
 }
 
-/// Load's input checks: k, n and the first box, or the refusal.
-pub fn check(file: &[u8]) -> Result<(u8, u8, u8), (u32, u32)> {
+/// Load's input checks: the header, or the refusal.
+pub fn check(file: &[u8]) -> Result<Header, (u32, u32)> {
     if ![1024, 1536, 2048, 2560].contains(&file.len()) {
         return Err((1, 0));
     }
     if let Some(j) = file.chunks(512).position(|b| !is_sealed(b)) {
         return Err((2, j as u32));
     }
-    if &file[..5] != b"FLOW\x01" {
+    let header = Header { edition: file[4], inputs: file[5], boxes: file[6], first: file[7] };
+    let n = header.boxes;
+    if &file[..4] != b"FLOW" || ![1, 2].contains(&header.edition) {
         return Err((3, 0));
     }
-    let (k, n, first) = (file[5], file[6], file[7]);
-    if k > 16 || n == 0 || n > 204 || first >= n || file[8..510].iter().any(|b| *b != 0) {
+    if header.inputs > 16 || n == 0 || n > 204 || header.first >= n || file[8..510].iter().any(|b| *b != 0) {
         return Err((4, 0));
     }
     if file.len() != 512 * (1 + (usize::from(n) + 50) / 51) {
@@ -110,12 +121,12 @@ pub fn check(file: &[u8]) -> Result<(u8, u8, u8), (u32, u32)> {
     }
     for p in 0..51 * (file.len() / 512 - 1) {
         let b = place(file, p);
-        let right = if p < usize::from(n) { is_box(b, k, n) } else { b == [0; 10] };
+        let right = if p < usize::from(n) { is_box(b, header) } else { b == [0; 10] };
         if !right {
             return Err((6, p as u32));
         }
     }
-    Ok((k, n, first))
+    Ok(header)
 }
 
 /// The steps that a limit means.
@@ -130,7 +141,7 @@ pub fn effective(limit: u32) -> u32 {
 /// The ten bytes of a box as a part of its file.
 pub fn show_box(file: &[u8], number: u32) -> &[u8] {
     match check(file) {
-        Ok((_, n, _)) if number < u32::from(n) => place(file, number as usize),
+        Ok(header) if number < u32::from(header.boxes) => place(file, number as usize),
         _ => &[],
     }
 }
@@ -142,9 +153,7 @@ impl Runner {
             vars: [0; 32],
             marks: [0; 32],
             counter: 0,
-            inputs: 0,
-            boxes: 0,
-            first: 0,
+            header: Header::default(),
             mode: 0,
             at: 0,
             limit: 0,
@@ -170,21 +179,21 @@ impl Runner {
         }
         match check(file) {
             Err((number, detail)) => Told::Refused(number, detail),
-            Ok((inputs, boxes, first)) => {
+            Ok(header) => {
                 self.table = [0; 2040];
                 for (to, block) in self.table.chunks_mut(510).zip(file[512..].chunks(512)) {
                     to.copy_from_slice(&block[..510]);
                 }
-                (self.inputs, self.boxes, self.first) = (inputs, boxes, first);
+                self.header = header;
                 self.rest(State::Resting, 0, 0);
-                Told::Chart { inputs, boxes }
+                Told::Chart { inputs: header.inputs, boxes: header.boxes }
             }
         }
     }
 
     pub fn begin(&mut self, mode: u32, inputs: &[u32], allowed: u32, limit: u32) -> Told {
         let refused = |number| Told::Refused(number, 0);
-        if self.boxes == 0 {
+        if self.header.boxes == 0 {
             return refused(21);
         }
         if self.state == State::Running {
@@ -193,10 +202,10 @@ impl Runner {
         if mode > 2 {
             return refused(7);
         }
-        if inputs.len() != usize::from(self.inputs) {
+        if inputs.len() != usize::from(self.header.inputs) {
             return refused(9);
         }
-        if allowed >> self.inputs != 0 {
+        if allowed >> self.header.inputs != 0 {
             return refused(8);
         }
         if limit > GREATEST_LIMIT {
@@ -211,7 +220,7 @@ impl Runner {
         }
         self.counter = 0;
         self.mode = mode as u8;
-        self.at = self.first;
+        self.at = self.header.first;
         self.limit = effective(limit);
         self.steps = 0;
         self.value = 0;
@@ -221,12 +230,15 @@ impl Runner {
     }
 
     fn assign(&mut self, b: [u8; 10]) {
+        let edition = self.header.edition;
         let (t, i, j) = (usize::from(b[1] % 32), usize::from(b[3] % 32), usize::from(b[4] % 32));
         let (x, y) = (self.vars[i], self.vars[j]);
         let value = match b[2] {
             0 => u32::from_le_bytes([b[6], b[7], b[8], b[9]]),
             1 => x,
+            2 if edition == 2 => x.saturating_add(y),
             2 => x.wrapping_add(y),
+            3 if edition == 2 => x.saturating_sub(y),
             3 => x.wrapping_sub(y),
             4 => x.wrapping_mul(y),
             5 => x.checked_div(y).unwrap_or(0),
@@ -235,11 +247,12 @@ impl Runner {
             8 => x.max(y),
             9 => x.count_ones(),
             10 => x.leading_zeros(),
+            11 if edition == 2 => x.trailing_zeros().min(y),
             _ => x.trailing_zeros(),
         };
-        let read = match b[2] {
-            0 => 0,
-            1 | 9 | 10 | 11 => self.marks[i],
+        let read = match reads(edition, b[2]) {
+            (false, _) => 0,
+            (_, false) => self.marks[i],
             _ => self.marks[i] | self.marks[j],
         };
         match self.mode {
@@ -341,18 +354,19 @@ impl Runner {
     }
 
     pub fn write_back(&self, buf: &mut [u8]) -> Told {
-        if self.boxes == 0 {
+        let Header { edition, inputs, boxes, first } = self.header;
+        if boxes == 0 {
             return Told::Refused(21, 0);
         }
-        let length = 512 * (1 + (usize::from(self.boxes) + 50) / 51);
+        let length = 512 * (1 + (usize::from(boxes) + 50) / 51);
         if buf.len() < length {
             return Told::Refused(12, 0);
         }
         for (j, block) in buf[..length].chunks_mut(512).enumerate() {
             if j == 0 {
                 block[..510].fill(0);
-                block[..5].copy_from_slice(b"FLOW\x01");
-                block[5..8].copy_from_slice(&[self.inputs, self.boxes, self.first]);
+                block[..4].copy_from_slice(b"FLOW");
+                block[4..8].copy_from_slice(&[edition, inputs, boxes, first]);
             } else {
                 block[..510].copy_from_slice(&self.table[510 * (j - 1)..510 * j]);
             }

@@ -66,13 +66,18 @@ fn files(name: String, count: u32, boxes: usize) -> Vec<Row> {
     ]
 }
 
-/// All charts have two inputs. In long runs input 0 is withheld: its mark goes through the assignments that read it and reaches no decision, so that
-/// the run goes on to the limit. Health checks allow both inputs and end with a value.
+/// All charts have two inputs, and edition 1 where a row names none. In long runs input 0 is withheld: its mark goes through the assignments that read it
+/// and reaches no decision, so that the run goes on to the limit. Health checks allow both inputs and end with a value.
 fn rows() -> Vec<Row> {
     let mut rows = Vec::new();
-    for (name, chart) in [("counting", charts::counting()), ("operations", charts::operations()), ("decisions", charts::decisions())] {
-        for (mode, mode_name) in ["bare", "surveillance", "high-water"].iter().enumerate() {
-            rows.push(checks(format!("box: {name}, {mode_name}"), "box", 65535.0, 10, chart.clone(), [mode as u32, 2, 65535]));
+    for (edition, named) in [(1, ""), (2, ", edition 2")] {
+        let charts =
+            [("counting", charts::counting(edition)), ("operations", charts::operations(edition)), ("decisions", charts::decisions(edition))];
+        for (name, chart) in charts {
+            for (mode, mode_name) in ["bare", "surveillance", "high-water"].iter().enumerate() {
+                let name = format!("box: {name}{named}, {mode_name}");
+                rows.push(checks(name, "box", 65535.0, 10, chart.clone(), [mode as u32, 2, 65535]));
+            }
         }
     }
     for n in [3, 20, 200] {
@@ -81,7 +86,7 @@ fn rows() -> Vec<Row> {
     rows.extend(files("2 blocks".into(), 2000, 51));
     rows.extend(files("5 blocks".into(), 1000, 204));
     for steps in [10, 100, 1000, 10_000, 65_535] {
-        rows.push(checks(format!("growth: {steps} boxes"), "box", f64::from(steps), 600_000 / steps, charts::counting(), [1, 2, steps]));
+        rows.push(checks(format!("growth: {steps} boxes"), "box", f64::from(steps), 600_000 / steps, charts::counting(1), [1, 2, steps]));
     }
     rows
 }
@@ -114,11 +119,11 @@ fn measure(row: &Row, samples: usize) -> [f64; 3] {
 }
 
 fn table() {
-    println!("{:34} {:>6} {:>9} {:>9} {:>9} {:>8} {:>8}", "row", "unit", "ours ns", "&mut ns", "value ns", "/ &mut", "/ value");
+    println!("{:40} {:>6} {:>9} {:>9} {:>9} {:>8} {:>8}", "row", "unit", "ours ns", "&mut ns", "value ns", "/ &mut", "/ value");
     for row in rows() {
         let [ours, plain, by_value] = measure(&row, 25);
         println!(
-            "{:34} {:>6} {:9.2} {:9.2} {:9.2} {:8.2} {:8.2}",
+            "{:40} {:>6} {:9.2} {:9.2} {:9.2} {:8.2} {:8.2}",
             row.name,
             row.unit,
             ours,

@@ -121,6 +121,7 @@ fn main() {
     let (mut scripts, mut calls) = (0u64, 0u64);
     let mut counts = [0u64; kinds::NAMES.len()];
     let mut refusals = [0u64; 25];
+    let mut accepted = [0u64; 3];
     while Instant::now() < end {
         let script = script(&mut random);
         let flat: Vec<u32> = script.words.iter().flatten().copied().collect();
@@ -133,8 +134,10 @@ fn main() {
         for (i, (words, told)) in script.words.iter().zip(told.chunks(4)).enumerate() {
             let expected = plain(&mut runner, &script.files, words, &mut theirs);
             counts[expected[0] as usize] += 1;
-            if kinds::NAMES[expected[0] as usize] == "refused" {
-                refusals[expected[1] as usize] += 1;
+            match kinds::NAMES[expected[0] as usize] {
+                "refused" => refusals[expected[1] as usize] += 1,
+                "chart" => accepted[usize::from(script.files[words[1] as usize + 4])] += 1,
+                _ => {}
             }
             if told != expected {
                 println!("seed {seed}, list {scripts}, call {i}: {words:?}");
@@ -152,5 +155,8 @@ fn main() {
     }
     for (number, count) in refusals.iter().enumerate().filter(|(_, count)| **count > 0) {
         println!("refused by {number}: {count}");
+    }
+    for edition in [1, 2] {
+        println!("loads of edition {edition}: {}", accepted[edition]);
     }
 }

@@ -1,3 +1,4 @@
 -- Laws that the proofs cite.
 pub mod Bools
 pub mod Zeros
+pub mod Formed

@@ -1,4 +1,4 @@
--- The rules of a box, ten bytes, in a chart of k inputs and n boxes.
+-- The rules of a box, ten bytes, in a chart of an edition, of k inputs and n boxes.
 use Prim.Native.Nat.{ℕ}
 use mathlib.Core.List.{List}
 use mathlib.Core.Bool.{Bool, cond, _&&_, _||_}
@@ -7,15 +7,16 @@ use lib.ListN.{length}
 use Rattle.boxes.specs.Bytes.{at, part, allZero}
 
 -- "An operand that is read is an input below k or a variable 16 to 31."
-abbrev pub readable : ℕ → ℕ → Bool
+abbrev pub readable : (k v : ℕ) → Bool
 readable k v = ltb v k || (leb 16 v && leb v 31)
 
--- "Operations 1, 9, 10 and 11 read left only; 2 to 8 read both." Operation 0 reads nothing.
+-- "Operations 1, 9, 10 and 11 read left only; 2 to 8 read both." Operation 0 reads nothing. 02, c: "In a chart with edition byte 2, .. Operation 11 reads both
+-- operands".
 abbrev pub readsLeft : ℕ → Bool
 readsLeft op = leb 1 op
 
-abbrev pub readsRight : ℕ → Bool
-readsRight op = leb 2 op && leb op 8
+abbrev pub readsRight : (edition op : ℕ) → Bool
+readsRight edition op = (leb 2 op && leb op 8) || (eqb op 11 && eqb edition 2)
 
 -- An operand that the box reads, or does not: "An unused field is 0, and that 0 isn't a read of input 0."
 unfoldable pub operandRule : ℕ → Bool → ℕ → Bool
@@ -23,20 +24,20 @@ operandRule k reads v = cond reads (readable k v) (eqb v 0)
 
 -- "Assignment: 0 kind 1; 1 target, 16 to 31; 2 operation; 3 left; 4 right; 5 next box; 6 to 9 constant, low byte
 -- first." "A next box is below n." "The constant is 0 except in operation 0."
-unfoldable pub assignmentRule : ℕ → ℕ → List ℕ → Bool
-assignmentRule k n b =
+unfoldable pub assignmentRule : (edition k n : ℕ) → List ℕ → Bool
+assignmentRule edition k n b =
     eqb (at b 0) 1
     && leb 16 (at b 1)
     && leb (at b 1) 31
     && leb (at b 2) 11
     && operandRule k (readsLeft (at b 2)) (at b 3)
-    && operandRule k (readsRight (at b 2)) (at b 4)
+    && operandRule k (readsRight edition (at b 2)) (at b 4)
     && ltb (at b 5) n
     && (eqb (at b 2) 0 || allZero (part b 6 4))
 
 -- "Decision: 0 kind 2; 1 is 0; 2 comparison (0 equal, 1 left less than right, 2 left not greater than right); 3 left; 4 right; 5 next if
 -- true; 6 next if false; 7 to 9 are 0."
-unfoldable pub decisionRule : ℕ → ℕ → List ℕ → Bool
+unfoldable pub decisionRule : (k n : ℕ) → List ℕ → Bool
 decisionRule k n b =
     eqb (at b 0) 2
     && eqb (at b 1) 0
@@ -52,5 +53,5 @@ unfoldable pub haltRule : List ℕ → Bool
 haltRule b = eqb (at b 0) 3 && allZero (part b 1 9)
 
 -- Ten bytes that break no rule.
-unfoldable pub wellFormed : ℕ → ℕ → List ℕ → Bool
-wellFormed k n b = eqb (length b) 10 && (assignmentRule k n b || decisionRule k n b || haltRule b)
+unfoldable pub wellFormed : (edition k n : ℕ) → List ℕ → Bool
+wellFormed edition k n b = eqb (length b) 10 && (assignmentRule edition k n b || decisionRule k n b || haltRule b)

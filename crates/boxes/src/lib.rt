@@ -1,8 +1,8 @@
-// The rules of a box, ten bytes, in a chart of k inputs and n boxes.
+// The rules of a box, ten bytes, in a chart of an edition, of k inputs and n boxes.
 ghost use mathlib.Core.Path.{_≡_};
 ghost use lib.ListN.{length};
 ghost use Rattle.boxes.specs.Bytes.{allZero};
-ghost use Rattle.boxes.specs.Box.{readable, operandRule, assignmentRule, decisionRule, haltRule, wellFormed};
+ghost use Rattle.boxes.specs.Box.{readable, readsRight, operandRule, assignmentRule, decisionRule, haltRule, wellFormed};
 
 // Every byte is 0.
 pub fn all_zero(bytes: &[u8]) -> bool
@@ -23,6 +23,13 @@ fn can_read(k: u8, v: u8) -> bool
     (v < k) | ((16 <= v) & (v <= 31))
 }
 
+// Whether an operation reads its right operand, which is where the editions differ in what they read.
+pub fn reads_right(edition: u8, op: u8) -> bool
+    ensures { λ r. ⌜ r ≡ readsRight edition op ⌝ }
+{
+    ((2 <= op) & (op <= 8)) | ((op == 11) & (edition == 2))
+}
+
 fn operand_holds(k: u8, reads: bool, v: u8) -> bool
     ensures { λ r. ⌜ r ≡ operandRule k reads v ⌝ }
 {
@@ -32,9 +39,9 @@ fn operand_holds(k: u8, reads: bool, v: u8) -> bool
     v == 0
 }
 
-fn assignment_holds(k: u8, n: u8, b: &[u8]) -> bool
+fn assignment_holds(edition: u8, k: u8, n: u8, b: &[u8]) -> bool
     requires { ⌜ length (now b) ≡ 10 ⌝ }
-    ensures { λ r. ⌜ r ≡ assignmentRule k n (now (b .entry)) ⌝ }
+    ensures { λ r. ⌜ r ≡ assignmentRule edition k n (now (b .entry)) ⌝ }
 {
     let op = b[2];
     (b[0] == 1)
@@ -42,7 +49,7 @@ fn assignment_holds(k: u8, n: u8, b: &[u8]) -> bool
         & (b[1] <= 31)
         & (op <= 11)
         & operand_holds(k, 1 <= op, b[3])
-        & operand_holds(k, (2 <= op) & (op <= 8), b[4])
+        & operand_holds(k, reads_right(edition, op), b[4])
         & (b[5] < n)
         & ((op == 0) | all_zero(&b[6..10]))
 }
@@ -69,17 +76,16 @@ fn halt_holds(b: &[u8]) -> bool
 }
 
 // Ten bytes that break no rule of a box.
-pub fn well_formed(k: u8, n: u8, b: &[u8]) -> bool
-    ensures { λ r. ⌜ r ≡ wellFormed k n (now (b .entry)) ⌝ }
+pub fn well_formed(edition: u8, k: u8, n: u8, b: &[u8]) -> bool
+    ensures { λ r. ⌜ r ≡ wellFormed edition k n (now (b .entry)) ⌝ }
 {
     if b.len() != 10 {
         return false;
     }
-    if assignment_holds(k, n, b) {
-        return true;
+    let kind = b[0];
+    match kind {
+        1 => assignment_holds(edition, k, n, b),
+        2 => decision_holds(k, n, b),
+        _ => halt_holds(b),
     }
-    if decision_holds(k, n, b) {
-        return true;
-    }
-    halt_holds(b)
 }

@@ -32,10 +32,10 @@ pub record Chart : Type 0 where
 abbrev pub chartOf : List ℕ → Chart
 chartOf f = record { header = headerOf f; table = tableOf f }
 
--- Bytes 0 to 509 of block 0: "the ASCII letters FLOW; byte 4 the edition, 1; byte 5 the number of inputs k ..; byte 6 the number of boxes n
+-- Bytes 0 to 509 of block 0: "the ASCII letters FLOW; byte 4 the edition ..; byte 5 the number of inputs k ..; byte 6 the number of boxes n
 -- ..; byte 7 the first box run ..; bytes 8 to 509 are 0".
 unfoldable pub headerBody : Header → List ℕ
-headerBody h = (70 ∷ 76 ∷ 79 ∷ 87 ∷ 1 ∷ h .inputs ∷ h .boxes ∷ h .first ∷ []) ++ replicate 502 0
+headerBody h = (70 ∷ 76 ∷ 79 ∷ 87 ∷ h .edition ∷ h .inputs ∷ h .boxes ∷ h .first ∷ []) ++ replicate 502 0
 
 -- Bytes 0 to 509 of block j: the header, or 51 boxes of the table.
 unfoldable pub bodyOf : Header → List ℕ → ℕ → List ℕ

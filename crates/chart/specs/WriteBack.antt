@@ -20,7 +20,7 @@ withFile h table buffer = fileOf h table ++ drop (fileLength h) buffer
 abbrev pub hasRoom : Header → ℕ → Bool
 hasRoom h room = leb (fileLength h) room
 
--- The header is one that a file can have, and there is room for the file.
+-- The header's numbers of inputs and boxes and its first box are those of a file, and there is room for it.
 abbrev pub takesFile : Header → ℕ → Bool
 takesFile h room = inRange h && hasRoom h room
 

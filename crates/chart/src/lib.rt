@@ -59,7 +59,7 @@ fn header_body(header: Header) -> [u8; 510]
     body[1] = b'L';
     body[2] = b'O';
     body[3] = b'W';
-    body[4] = 1;
+    body[4] = header.edition;
     body[5] = header.inputs;
     body[6] = header.boxes;
     body[7] = header.first;

@@ -57,7 +57,7 @@ header-again f h a l =
     let p = a .letters in
     let zeros : part f 8 502 ≡ replicate 502 0 = zeros-are (part f 8 502) (a .rest) ∙ ap (λ (m : ℕ). replicate m 0) (length-part f 8 502 (omega arith)) in
     let whole : take 510 f ≡ take 8 f ++ part f 8 502 = take-add 8 502 f in
-    rw (take-take 510 512 f (omega arith), whole, eight f (omega arith), zeros, p .f0, p .f1, p .f2, p .f3, p .f4, a .header)
+    rw (take-take 510 512 f (omega arith), whole, eight f (omega arith), zeros, p .f0, p .f1, p .f2, p .f3, a .header)
 
 module _ (f : List ℕ) (h : Header) (e : checkFile f ≡ checked.Accepted h) where
   facts : Accepted f h

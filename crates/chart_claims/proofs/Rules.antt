@@ -12,10 +12,10 @@ use lib.ListN.{length, replicate, length-append, length-replicate}
 use borrow.Author.Tests.{eqb-true, ltb-true, leb-true, lt-ltb, le-ltb}
 use Rattle.boxes.specs.Bytes.{at, part, allZero, boxOf}
 use Rattle.boxes.specs.Box.{readable, readsLeft, readsRight, operandRule, assignmentRule, decisionRule, haltRule, wellFormed}
-use Rattle.format.specs.File.{blocksFor, placeStart, placeOf, placeRule, checkFile}
+use Rattle.format.specs.File.{blocksFor, placeStart, placeOf, boxRule, placeRule, checkFile}
 use Rattle.format.specs.declared.Header.{Header}
 use Rattle.format.specs.declared.Checked.the-variants as checked
-use Rattle.boxes.proofs.Bools.{and-left, and-right, or-cases, every}
+use Rattle.boxes.proofs.Bools.{and-left, and-right, or-cases, Every, every}
 use Rattle.format.proofs.Accepted.{Accepted, accepted}
 use Rattle.chart.specs.Chart.{joined, boxBlocks, boxesOf, tableOf}
 use Rattle.chart_claims.specs.Claims.{ObeysRules, ShowsTheBox, BoxInRange, assignment, decision, halt, StaysInRange}
@@ -48,13 +48,13 @@ module _ (f : List ℕ) (h : Header) (e : checkFile f ≡ checked.Accepted h) wh
       ∙ part-part f (512 * (1 + q)) 510 o 10 (omega arith)
       ∙ ap (λ (x : ℕ). part f x 10) here
 
-  pub obeys : (p : ℕ) → p < h .boxes → wellFormed (h .inputs) (h .boxes) (boxOf (tableOf f) p) ≡ true
+  pub obeys : (p : ℕ) → p < h .boxes → boxRule h (boxOf (tableOf f) p) ≡ true
   unfolding placeRule
   obeys p l =
       let a = accepted f h e in
       let within : p < 51 * (blocksFor (h .boxes) - 1) = omega (arith, a .some) in
       let holds = rw (lt-ltb p (h .boxes) l) at (a .places p within) in
-      ap (wellFormed (h .inputs) (h .boxes)) (box-is-place p within) ∙ holds
+      ap (boxRule h) (box-is-place p within) ∙ holds
 
   pub zeros-past : (p : ℕ) → h .boxes ≤ p → allZero (boxOf (tableOf f) p) ≡ true
   unfolding placeRule tableOf
@@ -82,15 +82,15 @@ module _ (f : List ℕ) (h : Header) (e : checkFile f ≡ checked.Accepted h) wh
 pub obeys-rules : ObeysRules
 obeys-rules f h e = (table-long f h e, obeys f h e, zeros-past f h e)
 
-length-formed : (k n : ℕ) (b : List ℕ) → wellFormed k n b ≡ true → length b ≡ 10
+length-formed : (edition k n : ℕ) (b : List ℕ) → wellFormed edition k n b ≡ true → length b ≡ 10
 unfolding wellFormed
-length-formed k n b e = eqb-true (length b) 10 (and-left (eqb (length b) 10) (assignmentRule k n b || decisionRule k n b || haltRule b) e)
+length-formed edition k n b e = eqb-true (length b) 10 (and-left (eqb (length b) 10) (assignmentRule edition k n b || decisionRule k n b || haltRule b) e)
 
 pub shows-the-box : ShowsTheBox
 shows-the-box f h p e l =
     let a = accepted f h e in
     let place = box-is-place f h e p (omega (arith, a .some)) in
-    let ten = length-formed (h .inputs) (h .boxes) (boxOf (tableOf f) p) (obeys f h e p l) in
+    let ten = length-formed (h .edition) (h .inputs) (h .boxes) (boxOf (tableOf f) p) (obeys f h e p l) in
     rw (shows-box f p h e l) (ap length (sym place) ∙ ten, sym place)
 
 -- The rules, kind by kind.
@@ -106,27 +106,70 @@ unfolding operandRule
 operand-below k true v h e = readable-below k v h e
 operand-below k false v h e = let z = eqb-true v 0 e in omega arith
 
-module _ (k n : ℕ) (b : List ℕ) (few : k ≤ 16) where
-  in-range-assign : assignmentRule k n b ≡ true → BoxInRange n b
-  unfolding assignmentRule
+-- What the rules of each kind say, part by part.
+pub assignment-says : (edition k n : ℕ) (b : List ℕ) → assignmentRule edition k n b ≡ true
+    → Every
+    (eqb (at b 0) 1
+    ∷ leb 16 (at b 1)
+    ∷ leb (at b 1) 31
+    ∷ leb (at b 2) 11
+    ∷ operandRule k (readsLeft (at b 2)) (at b 3)
+    ∷ operandRule k (readsRight edition (at b 2)) (at b 4)
+    ∷ ltb (at b 5) n
+    ∷ (eqb (at b 2) 0 || allZero (part b 6 4))
+    ∷ [])
+unfolding assignmentRule
+assignment-says edition k n b e = every _ (_ ∷ _ ∷ _ ∷ _ ∷ _ ∷ _ ∷ _ ∷ []) e
+
+pub decision-says : (k n : ℕ) (b : List ℕ) → decisionRule k n b ≡ true
+    → Every
+    (eqb (at b 0) 2
+    ∷ eqb (at b 1) 0
+    ∷ leb (at b 2) 2
+    ∷ readable k (at b 3)
+    ∷ readable k (at b 4)
+    ∷ ltb (at b 5) n
+    ∷ ltb (at b 6) n
+    ∷ allZero (part b 7 3)
+    ∷ [])
+unfolding decisionRule
+decision-says k n b e = every _ (_ ∷ _ ∷ _ ∷ _ ∷ _ ∷ _ ∷ _ ∷ []) e
+
+pub halt-says : (b : List ℕ) → haltRule b ≡ true → at b 0 ≡ 3
+unfolding haltRule
+halt-says b e = eqb-true (at b 0) 3 (and-left (eqb (at b 0) 3) (allZero (part b 1 9)) e)
+
+-- A box that obeys the rules obeys those of its kind.
+pub by-kind : (edition k n : ℕ) (b : List ℕ) (P : Type 0)
+    → (assignmentRule edition k n b ≡ true → P)
+    → (decisionRule k n b ≡ true → P)
+    → (haltRule b ≡ true → P)
+    → wellFormed edition k n b ≡ true
+    → P
+unfolding wellFormed
+by-kind edition k n b P assigns decides halts e =
+    let kinds = and-right (eqb (length b) 10) (assignmentRule edition k n b || decisionRule k n b || haltRule b) e in
+    ⊎-elim
+    (λ d. ⊎-elim assigns decides (or-cases (assignmentRule edition k n b) (decisionRule k n b) d))
+    halts
+    (or-cases (assignmentRule edition k n b || decisionRule k n b) (haltRule b) kinds)
+
+module _ (edition k n : ℕ) (b : List ℕ) (few : k ≤ 16) where
+  in-range-assign : assignmentRule edition k n b ≡ true → BoxInRange n b
   in-range-assign e =
-      let left = operandRule k (readsLeft (at b 2)) (at b 3) in
-      let right = operandRule k (readsRight (at b 2)) (at b 4) in
-      let constant = eqb (at b 2) 0 || allZero (part b 6 4) in
-      let r = every (eqb (at b 0) 1) (leb 16 (at b 1) ∷ leb (at b 1) 31 ∷ leb (at b 2) 11 ∷ left ∷ right ∷ ltb (at b 5) n ∷ constant ∷ []) e in
+      let r = assignment-says edition k n b e in
       assignment
       (eqb-true (at b 0) 1 (r .0))
       (leb-true 16 (at b 1) (r .1 .0))
       (let l = leb-true (at b 1) 31 (r .1 .1 .0) in omega arith)
       (leb-true (at b 2) 11 (r .1 .1 .1 .0))
       (operand-below k (readsLeft (at b 2)) (at b 3) few (r .1 .1 .1 .1 .0))
-      (operand-below k (readsRight (at b 2)) (at b 4) few (r .1 .1 .1 .1 .1 .0))
+      (operand-below k (readsRight edition (at b 2)) (at b 4) few (r .1 .1 .1 .1 .1 .0))
       (ltb-true (at b 5) n (r .1 .1 .1 .1 .1 .1 .0))
 
   in-range-decide : decisionRule k n b ≡ true → BoxInRange n b
-  unfolding decisionRule
   in-range-decide e =
-      let r = every (eqb (at b 0) 2) (eqb (at b 1) 0 ∷ leb (at b 2) 2 ∷ readable k (at b 3) ∷ readable k (at b 4) ∷ ltb (at b 5) n ∷ ltb (at b 6) n ∷ allZero (part b 7 3) ∷ []) e in
+      let r = decision-says k n b e in
       decision
       (eqb-true (at b 0) 2 (r .0))
       (leb-true (at b 2) 2 (r .1 .1 .0))
@@ -136,19 +179,19 @@ module _ (k n : ℕ) (b : List ℕ) (few : k ≤ 16) where
       (ltb-true (at b 6) n (r .1 .1 .1 .1 .1 .1 .0))
 
   in-range-halt : haltRule b ≡ true → BoxInRange n b
-  unfolding haltRule
-  in-range-halt e = halt (eqb-true (at b 0) 3 (and-left (eqb (at b 0) 3) (allZero (part b 1 9)) e))
+  in-range-halt e = halt (halt-says b e)
 
-  pub in-range : wellFormed k n b ≡ true → BoxInRange n b
-  unfolding wellFormed
-  in-range e =
-      let kinds = and-right (eqb (length b) 10) (assignmentRule k n b || decisionRule k n b || haltRule b) e in
-      ⊎-elim
-      (λ d. ⊎-elim in-range-assign in-range-decide (or-cases (assignmentRule k n b) (decisionRule k n b) d))
-      in-range-halt
-      (or-cases (assignmentRule k n b || decisionRule k n b) (haltRule b) kinds)
+  pub in-range : wellFormed edition k n b ≡ true → BoxInRange n b
+  in-range e = by-kind edition k n b (BoxInRange n b) in-range-assign in-range-decide in-range-halt e
 
 pub stays-in-range : StaysInRange
 stays-in-range f h e =
     let a = accepted f h e in
-    (record { few = a .few; some = a .some; fits = a .fits; start = a .start }, λ p l. in-range (h .inputs) (h .boxes) (boxOf (tableOf f) p) (a .few) (obeys f h e p l))
+    let edition : (1 ≤ h .edition) × (h .edition ≤ 2) =
+    ⊎-elim
+    (λ one. let is = eqb-true (h .edition) 1 one in omega arith)
+    (λ two. let is = eqb-true (h .edition) 2 two in omega arith)
+    (or-cases (eqb (h .edition) 1) (eqb (h .edition) 2) (a .edition)) in (
+      record { edition = edition; few = a .few; some = a .some; fits = a .fits; start = a .start },
+      λ p l. in-range (h .edition) (h .inputs) (h .boxes) (boxOf (tableOf f) p) (a .few) (obeys f h e p l),
+    )

@@ -6,8 +6,7 @@ use mathlib.Core.Logic.{_≢_}
 use mathlib.Core.Bool.{true}
 use lib.ListN.{length}
 use Rattle.boxes.specs.Bytes.{at, part, allZero, boxOf}
-use Rattle.boxes.specs.Box.{wellFormed}
-use Rattle.format.specs.File.{checkFile}
+use Rattle.format.specs.File.{boxRule, checkFile}
 use Rattle.format.specs.declared.Header.{Header}
 use Rattle.format.specs.declared.Checked.the-variants.{Accepted}
 use Rattle.chart.specs.Chart.{tableOf}
@@ -26,8 +25,9 @@ LastBoxShown =
     → p + 1 ≡ h .boxes
     → part f (showBox f p .start) (showBox f p .size) ≡ boxOf (tableOf f) p
 
--- "k, 0 to 16"; "n, 1 to 204"; "the first box run, below n": no number is the first one out of range.
+-- Edition 1 or 2; "k, 0 to 16"; "n, 1 to 204"; "the first box run, below n": no number is the first one out of range.
 pub record HeaderBounds (h : Header) : Type 0 where
+  pub edition : (h .edition ≢ 0) × (h .edition ≢ 3)
   pub inputs : h .inputs ≢ 17
   pub boxes : (h .boxes ≢ 0) × (h .boxes ≢ 205)
   pub first : h .first ≢ h .boxes
@@ -46,7 +46,7 @@ pub record BoxBounds (n : ℕ) (b : List ℕ) : Type 0 where
 -- A chart: its header; box n - 1, which obeys the box rules; and "places from n on are all 0".
 pub record ChartBounds (h : Header) (table : List ℕ) : Type 0 where
   pub header : HeaderBounds h
-  pub formed : (p : ℕ) → p + 1 ≡ h .boxes → wellFormed (h .inputs) (h .boxes) (boxOf table p) ≡ true
+  pub formed : (p : ℕ) → p + 1 ≡ h .boxes → boxRule h (boxOf table p) ≡ true
   pub ranged : (p : ℕ) → p + 1 ≡ h .boxes → BoxBounds (h .boxes) (boxOf table p)
   pub zero : allZero (boxOf table (h .boxes)) ≡ true
 

@@ -5,8 +5,7 @@ use mathlib.Core.List.{List, _++_}
 use mathlib.Core.Bool.{true}
 use lib.ListN.{length, drop}
 use Rattle.boxes.specs.Bytes.{at, part, allZero, boxOf}
-use Rattle.boxes.specs.Box.{wellFormed}
-use Rattle.format.specs.File.{inRange, checkFile}
+use Rattle.format.specs.File.{inRange, boxRule, checkFile}
 use Rattle.format.specs.declared.Header.{Header}
 use Rattle.format.specs.declared.Checked.the-variants.{Accepted}
 use Rattle.chart.specs.Chart.{tableOf, fileOf}
@@ -42,7 +41,7 @@ ObeysRules =
     (f : List ℕ) (h : Header)
     → checkFile f ≡ Accepted h
     → (length (tableOf f) ≡ 2040)
-    × ((p : ℕ) → p < h .boxes → wellFormed (h .inputs) (h .boxes) (boxOf (tableOf f) p) ≡ true)
+    × ((p : ℕ) → p < h .boxes → boxRule h (boxOf (tableOf f) p) ≡ true)
     × ((p : ℕ) → h .boxes ≤ p → allZero (boxOf (tableOf f) p) ≡ true)
 
 -- "returns the ten bytes of that box": of an accepted file and a number below n, the part that is shown is the box that the table holds.
@@ -55,6 +54,7 @@ ShowsTheBox =
 
 -- The numbers in a header.
 pub record HeaderInRange (h : Header) : Type 0 where
+  pub edition : (1 ≤ h .edition) × (h .edition ≤ 2)
   pub few : h .inputs ≤ 16
   pub some : 1 ≤ h .boxes
   pub fits : h .boxes ≤ 204

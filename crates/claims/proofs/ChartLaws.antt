@@ -26,6 +26,7 @@ use Rattle.claims.specs.Lists.{Accepted, final}
 use Rattle.claims.specs.Charts.{Obeys, HeldObeys, RunsInRange, EndsInRange, KeepsChart, AllKeepChart, LoadedIsWritten, WrittenIsLoaded}
 use Rattle.claims.proofs.Branches.{clash}
 use Rattle.claims.proofs.Accepting.{call-done}
+use Rattle.claims.proofs.Decoded.{reads-only}
 use Rattle.claims.proofs.Reachable.{sound, accepted-file}
 use Rattle.claims.proofs.OneChart.{room-accepts, write-does, own-file, own-length}
 
@@ -39,6 +40,9 @@ from-obeys h table file e t =
       header = s .0;
       formed = rw t (o .1);
       ranged = rw t (s .1);
+      reads =
+          λ p l. rw t
+          (reads-only (h .edition) (h .inputs) (h .boxes) (tableOf file) p (omega (arith, s .0 .fits, l)) (o .1 p l));
       zero = rw t (o .2);
     }
 

@@ -18,7 +18,7 @@ use Rattle.calls.specs.declared.Verdict.{Verdict}
 use Rattle.calls.specs.declared.Verdict.the-variants.{Done, Refused}
 use Rattle.calls.proofs.Permits.{not-done, passed, advance-enough}
 use Rattle.runner.specs.declared.Runner.{Runner}
-use Rattle.runner.specs.State.{isRunning, isEnded, leastIn, standingOf, endingIn, runIn, endedWith, ran, resumed}
+use Rattle.runner.specs.State.{isRunning, isEnded, leastIn, standingOf, endingIn, runIn, endedWith, flowIn, ran, resumed}
 use Rattle.runner.specs.Outcomes.{Reply, done, chart, ending, wrote, refused, Told, Outcome, Effect, runs, keeps, begins, drops, replaces, effect, after, progressReply, says, outcomeBy, call}
 use Rattle.claims.specs.Lists.{Accepted, tells, final, OnlyRuns, Continues, AllContinue, amountOf, asked}
 use Rattle.claims.proofs.Branches.{clash}
@@ -93,7 +93,7 @@ module _ (r : Runner) (on : r .state ≡ 1) where
   mode = modeOf (r .mode)
 
   abbrev inside : ℕ → Progress
-  inside n = run (r .table) n (going (runIn r))
+  inside n = run (flowIn r) n (going (runIn r))
 
   pub ran-over : (n : ℕ) → Over (inside n) → Over (ran n r)
   ran-over n o = kept-by Over mode (inside n) o (λ h. record { ending = notice 0; steps = 0; is = refl })
@@ -106,21 +106,21 @@ module _ (r : Runner) (on : r .state ≡ 1) where
   going-inside n q e = inside-is n (going q) (λ d. clash cc) e
 
   as-begun : (n : ℕ) (q : Run) → ran n r ≡ going q → (q .mode ≡ r .mode) × (q .limit ≡ r .limit)
-  as-begun n q e = subst (AsBegun (runIn r)) (going-inside n q e) (run-as-begun (r .table) n (runIn r))
+  as-begun n q e = subst (AsBegun (runIn r)) (going-inside n q e) (run-as-begun (flowIn r) n (runIn r))
 
   pub value-inside : (n v steps : ℕ) → ran n r ≡ over (valued v) steps → inside n ≡ over (valued v) steps
   value-inside n v steps e = inside-is n (over (valued v) steps) (λ d. clash cc) e
 
-  going-ran : (m : ℕ) (q : Run) → ran m (resumed (going q) r) ≡ kept (modeOf (q .mode)) (run (r .table) m (going q))
+  going-ran : (m : ℕ) (q : Run) → ran m (resumed (going q) r) ≡ kept (modeOf (q .mode)) (run (flowIn r) m (going q))
   unfolding resumed
   going-ran m q = refl
 
   ran-further : (m n : ℕ) (q : Run) → ran n r ≡ going q → ran m (resumed (going q) r) ≡ ran (n + m) r
   ran-further m n q e =
       going-ran m q
-      ∙ ap (λ (k : ℕ). kept (modeOf k) (run (r .table) m (going q))) (as-begun n q e .0)
-      ∙ ap (λ (p : Progress). kept mode (run (r .table) m p)) (sym (going-inside n q e))
-      ∙ ap (kept mode) (sym (run-add (r .table) n m (going (runIn r))))
+      ∙ ap (λ (k : ℕ). kept (modeOf k) (run (flowIn r) m (going q))) (as-begun n q e .0)
+      ∙ ap (λ (p : Progress). kept mode (run (flowIn r) m p)) (sym (going-inside n q e))
+      ∙ ap (kept mode) (sym (run-add (flowIn r) n m (going (runIn r))))
 
   pub ran-still : (m n : ℕ) (e : Ending) (steps : ℕ) → ran n r ≡ over e steps → ran (n + m) r ≡ over e steps
   unfolding kept
@@ -128,7 +128,7 @@ module _ (r : Runner) (on : r .state ≡ 1) where
     where
       by : (p : Progress) → inside n ≡ p → ran (n + m) r ≡ over e steps
       by (going q) h = let z : going q ≡ over e steps = ap (kept mode) (sym h) ∙ d in clash cc
-      by (over k steps′) h = ap (kept mode) (over-twice (r .table) _ k n steps′ m h ∙ sym h) ∙ d
+      by (over k steps′) h = ap (kept mode) (over-twice (flowIn r) _ k n steps′ m h ∙ sym h) ∙ d
 
   -- The least amount by which it may be advanced stays.
   least-stays : (n : ℕ) (q : Run) → ran n r ≡ going q → leastIn (resumed (going q) r) ≡ leastIn r

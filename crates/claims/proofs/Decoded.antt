@@ -1,11 +1,16 @@
--- The box at a place whose ten bytes are in range goes on to a box of the chart. Assumes nothing.
+-- The box at a place whose ten bytes are in range goes on to a box of the chart, and one that obeys the rules reads what the rules allow. Assumes nothing.
 use Prim.Native.Nat.{ℕ, _<_}
-use mathlib.Core.List.{List}
-use mathlib.Core.Bool.{Bool}
-use borrow.Author.Tests.{lt-leb}
-use Rattle.boxes.specs.Bytes.{boxOf}
+use mathlib.Core.List.{List, [], _∷_}
+use mathlib.Core.Path.{_≡_}
+use mathlib.Core.Bool.{Bool, true, false, cond}
+use borrow.Author.Tests.{eqb-true, lt-leb}
+use Rattle.boxes.specs.Bytes.{at, boxOf}
+use Rattle.boxes.specs.Box.{readsLeft, readsRight, operandRule, wellFormed}
 use Rattle.chart_claims.specs.Claims.{BoxInRange, assignment, decision, halt}
-use Rattle.decode.specs.Decode.{decode, boxAt, Box, assigns, decides, halts, meaning}
+use Rattle.chart_claims.proofs.Rules.{assignment-says, decision-says, halt-says, by-kind}
+use Rattle.operations.specs.Operation.{readBy}
+use Rattle.decode.specs.Decode.{decode, boxAt, Box, assigns, decides, halts, meaning, flow}
+use Rattle.claims.specs.Charts.{AllReadable, ReadsOnly}
 
 -- A box whose next boxes are below n.
 pub data GoesBelow (n : ℕ) : Box → Type 0 where
@@ -13,8 +18,31 @@ pub data GoesBelow (n : ℕ) : Box → Type 0 where
   decide-below : {reads : List ℕ} {holds : List ℕ → Bool} {next other : ℕ} → next < n → other < n → GoesBelow n (decides reads holds next other)
   halt-below : GoesBelow n halts
 
-pub goes-below : (n : ℕ) (table : List ℕ) (p : ℕ) → p < 204 → BoxInRange n (boxOf table p) → GoesBelow n (meaning (boxAt table p))
+pub goes-below : (n edition : ℕ) (table : List ℕ) (p : ℕ) → p < 204 → BoxInRange n (boxOf table p) → GoesBelow n (flow edition table p)
 unfolding boxAt decode meaning
-goes-below n table p l (assignment e a b c d f g) = rw (lt-leb 204 p l, e) (assign-below g)
-goes-below n table p l (decision e a b c f g) = rw (lt-leb 204 p l, e) (decide-below f g)
-goes-below n table p l (halt e) = rw (lt-leb 204 p l, e) halt-below
+goes-below n edition table p l (assignment e a b c d f g) = rw (lt-leb 204 p l, e) (assign-below g)
+goes-below n edition table p l (decision e a b c f g) = rw (lt-leb 204 p l, e) (decide-below f g)
+goes-below n edition table p l (halt e) = rw (lt-leb 204 p l, e) halt-below
+
+-- The operands that an operation reads are held to the rule of a read operand.
+operands-readable : (k : ℕ) (l r : Bool) (left right : ℕ) → operandRule k l left ≡ true → operandRule k r right ≡ true
+    → AllReadable k (cond l (left ∷ cond r (right ∷ []) []) [])
+unfolding operandRule
+operands-readable k true true left right e d = (e, (d, tt))
+operands-readable k true false left right e d = (e, tt)
+operands-readable k false r left right e d = tt
+
+pub reads-only : (edition k n : ℕ) (table : List ℕ) (p : ℕ) → p < 204 → wellFormed edition k n (boxOf table p) ≡ true → ReadsOnly k (flow edition table p)
+unfolding boxAt decode meaning readBy
+reads-only edition k n table p l e =
+    let b = boxOf table p in
+    by-kind edition k n b (ReadsOnly k (flow edition table p))
+    (λ a.
+    let r = assignment-says edition k n b a in
+    rw (lt-leb 204 p l, r .0)
+    (operands-readable k (readsLeft (at b 2)) (readsRight edition (at b 2)) (at b 3) (at b 4) (r .1 .1 .1 .1 .0) (r .1 .1 .1 .1 .1 .0)))
+    (λ d.
+    let r = decision-says k n b d in
+    rw (lt-leb 204 p l, eqb-true (at b 0) 2 (r .0)) (r .1 .1 .1 .0, (r .1 .1 .1 .1 .0, tt)))
+    (λ h. rw (lt-leb 204 p l, halt-says b h) tt)
+    e

@@ -13,7 +13,7 @@ use Rattle.machine.specs.Run.{Run, valued, Progress, going, over, run}
 use Rattle.machine.proofs.Runs.{over-twice, kept-all}
 use Rattle.calls.specs.Calls.{answer}
 use Rattle.runner.specs.declared.Runner.{Runner}
-use Rattle.runner.specs.State.{chartIn, ran, resumed}
+use Rattle.runner.specs.State.{chartIn, flowIn, ran, resumed}
 use Rattle.runner.specs.Whole.{startOf}
 use Rattle.runner.specs.Outcomes.{call}
 use Rattle.claims.specs.Lists.{Accepted}
@@ -34,12 +34,12 @@ module _ (r : Runner) (inputs : List ℕ) (allowed limit : ℕ) where
   unfolding modeOf
   start-pace = level {q = startIn 2} (startIn 1 .marks) refl refl (record { long = refl; under = λ j e. e })
 
-  surveyed-value : (n boxes v steps : ℕ) → run (r .table) boxes (going (startIn 2)) ≡ over (valued v) steps → Over (run (r .table) n (going (startIn 1)))
-      → run (r .table) n (going (startIn 1)) ≡ over (valued v) steps
+  surveyed-value : (n boxes v steps : ℕ) → run (flowIn r) boxes (going (startIn 2)) ≡ over (valued v) steps → Over (run (flowIn r) n (going (startIn 1)))
+      → run (flowIn r) n (going (startIn 1)) ≡ over (valued v) steps
   surveyed-value n boxes v steps h o =
-      let here : run (r .table) (boxes + n) (going (startIn 1)) ≡ over (o .ending) (o .steps) =
-      ap (λ (k : ℕ). run (r .table) k (going (startIn 1))) (add-comm boxes n) ∙ over-twice (r .table) _ (o .ending) n (o .steps) boxes (o .is) in
-      let both = pace-value v steps (o .ending) (o .steps) (run-pace (r .table) (boxes + n) start-pace) (over-twice (r .table) _ (valued v) boxes steps n h) here in
+      let here : run (flowIn r) (boxes + n) (going (startIn 1)) ≡ over (o .ending) (o .steps) =
+      ap (λ (k : ℕ). run (flowIn r) k (going (startIn 1))) (add-comm boxes n) ∙ over-twice (flowIn r) _ (o .ending) n (o .steps) boxes (o .is) in
+      let both = pace-value v steps (o .ending) (o .steps) (run-pace (flowIn r) (boxes + n) start-pace) (over-twice (flowIn r) _ (valued v) boxes steps n h) here in
       o .is ∙ sym here ∙ both
 
 pub answers-as-high-water : AnswersAsHighWater
@@ -57,10 +57,10 @@ answers-as-high-water r r′ inputs allowed limit limit′ b v steps w ds qd =
     let n = last .boxes in (
       (λ enough.
           let all = last .all refl in
-          let o = ran-over start refl n (run-ends (r′ .table) n (startIn r′ inputs allowed l 1) (effective-positive limit′) (omega arith)) in
+          let o = ran-over start refl n (run-ends (flowIn r′) n (startIn r′ inputs allowed l 1) (effective-positive limit′) (omega arith)) in
           subst (Accepted answer) (sym (last .is ∙ ap (λ (x : Progress). resumed x start) (o .is))) (over-answers start refl (o .ending) (o .steps))),
       (λ ends.
-          let same = kept-all Surveillance refl (run (r′ .table) n (going (startIn r′ inputs allowed l 1))) in
+          let same = kept-all Surveillance refl (run (flowIn r′) n (going (startIn r′ inputs allowed l 1))) in
           let o = answered-over start refl (ran n start) (subst (Accepted answer) (last .is) ends) in
           let is = surveyed-value r′ inputs allowed l n (told .0) v steps (value-inside high refl (told .0) v steps (told .1)) (subst Over same o) in
           ap (λ (x : Runner). call answer x .told) (last .is ∙ ap (λ (x : Progress). resumed x start) (same ∙ is)) ∙ over-tells start refl (valued v) steps),

@@ -12,7 +12,7 @@ use Rattle.begin.specs.Begin.{effective}
 use Rattle.begin.proofs.Begins.{effective-positive}
 use Rattle.calls.specs.Calls.{begin}
 use Rattle.runner.specs.declared.Runner.{Runner}
-use Rattle.runner.specs.State.{isRunning, leastIn, runIn, ran, resumed}
+use Rattle.runner.specs.State.{isRunning, leastIn, runIn, flowIn, ran, resumed}
 use Rattle.runner.specs.Whole.{finish, whole}
 use Rattle.runner.specs.Outcomes.{Reply, ended, ending, Outcome, progressReply}
 use Rattle.claims.specs.Lists.{Accepted, final}
@@ -57,7 +57,7 @@ high-water-tells r mode inputs allowed limit a cs q t m two = by (replied-from s
     by holds = tt
     by (came n l) =
         subst CountsValuesOnly (sym (over-told (modeOf mode) hidden (ran n s) (reaches r mode inputs allowed limit a n (rw hidden at l)))) refl
-    by (ended-so n d) = subst Hidden d (kept-hidden (modeOf mode) hidden (run (r .table) n (going (runIn s))))
+    by (ended-so n d) = subst Hidden d (kept-hidden (modeOf mode) hidden (run (flowIn r) n (going (runIn s))))
     by put = tt
     by turned = tt
 
@@ -74,8 +74,8 @@ unfolding whole
 high-water-answers r mode inputs allowed limit a cs q two ends =
     let s = start r mode inputs allowed limit a in
     let l = effective limit in
-    let boxes = run (r .table) l (going (runIn s)) in
-    let o = run-ends (r .table) l (runIn s) (effective-positive limit) (omega arith) in
+    let boxes = run (flowIn r) l (going (runIn s)) in
+    let o = run-ends (flowIn r) l (runIn s) (effective-positive limit) (omega arith) in
     tells-whole-run r mode inputs allowed limit a cs q ends
     ∙ ap (λ (x : Reply). record { reply = x; buffer = [] }) (finish-hidden (modeOf mode) (high-hides mode two) boxes o)
 

@@ -2,10 +2,9 @@
 -- is hidden. Assumes nothing.
 use Prim.Native.Nat.{ℕ}
 use mathlib.Core.Path.{_≡_, refl, sym, _∙_, subst}
-use mathlib.Core.List.{List}
 use mathlib.Core.Bool.{true}
 use lib.Bits.{bitOr}
-use Rattle.decode.specs.Decode.{boxAt, Box, assigns, decides, halts, meaning}
+use Rattle.decode.specs.Decode.{Box, assigns, decides, halts}
 use Rattle.marks.specs.Marks.{modeOf, marked, union}
 use Rattle.marks.specs.declared.Mode.{Mode}
 use Rattle.marks.specs.declared.Mode.the-variants.{HighWater}
@@ -35,14 +34,14 @@ settle-lost q (assigns t reads gives next) m c = goes-lost _ m c
 settle-lost q (decides reads holds next other) m c = goes-lost _ m (marked-left (q .counter) (union (entries (q .marks) reads)) c)
 settle-lost q halts m c = rw (marked-left (q .counter) (entry (q .marks) 31) c) noticed
 
-module _ (table : List ℕ) where
+module _ (flow : ℕ → Box) where
   -- The box at hand, by the mode.
   abbrev pub stepBy : Mode → Run → Progress
-  stepBy mode q = settle (act mode (meaning (boxAt table (q .at))) (q .vars) (q .marks) (q .counter)) q
+  stepBy mode q = settle (act mode (flow (q .at)) (q .vars) (q .marks) (q .counter)) q
 
-  pub onward-lost : {p : Progress} → Lost p → Lost (onward table p)
+  pub onward-lost : {p : Progress} → Lost p → Lost (onward flow p)
   unfolding onward
-  onward-lost (counted {q = q} m c) = subst (λ (k : Mode). Lost (stepBy k q)) (sym m) (settle-lost q (meaning (boxAt table (q .at))) m c)
+  onward-lost (counted {q = q} m c) = subst (λ (k : Mode). Lost (stepBy k q)) (sym m) (settle-lost q (flow (q .at)) m c)
   onward-lost noticed = noticed
   onward-lost used-up = used-up
 

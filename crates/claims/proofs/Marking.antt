@@ -12,7 +12,7 @@ use lib.Dec.{eqb, ltb, leb}
 use lib.ListN.{getD, set, List·getD-map}
 use lib.Pow.{pow-pos}
 use borrow.Author.Tests.{lt-ltb, le-ltb, ne-eqb}
-use Rattle.decode.specs.Decode.{boxAt, Box, assigns, decides, halts, meaning}
+use Rattle.decode.specs.Decode.{Box, assigns, decides, halts}
 use Rattle.marks.specs.Marks.{modeOf, marked, union, byMode, targetMark, decisionNotice, counterMark, haltNotice, namedBy}
 use Rattle.marks.specs.declared.Mode.{Mode}
 use Rattle.marks.specs.declared.Mode.the-variants.{Bare, Surveillance, HighWater}
@@ -191,20 +191,20 @@ settle-as (Go next counter) q = goes-as (moved q (q .vars) (q .marks) counter ne
 settle-as (Value v) q = refl
 settle-as (Notice named) q = refl
 
-module _ (table : List ℕ) where
-  onward-as : (p : Progress) → onward table (progressAsMarks p) ≡ progressAsMarks (onward table p)
+module _ (flow : ℕ → Box) where
+  onward-as : (p : Progress) → onward flow (progressAsMarks p) ≡ progressAsMarks (onward flow p)
   unfolding onward progressAsMarks
   onward-as (going q) =
       let m = modeOf (q .mode) in
-      let b = meaning (boxAt table (q .at)) in
+      let b = flow (q .at) in
       ap (λ (a : Act). settle a (asMarks q)) (act-as m (q .vars) (q .marks) (q .counter) b) ∙ settle-as (act m b (q .vars) (q .marks) (q .counter)) q
   onward-as (over e steps) = refl
 
-  run-as : (m : ℕ) (p : Progress) → run table m (progressAsMarks p) ≡ progressAsMarks (run table m p)
+  run-as : (m : ℕ) (p : Progress) → run flow m (progressAsMarks p) ≡ progressAsMarks (run flow m p)
   unfolding run
   run-as zero p = refl
-  run-as (suc m) p = ap (run table m) (onward-as p) ∙ run-as m (onward table p)
+  run-as (suc m) p = ap (run flow m) (onward-as p) ∙ run-as m (onward flow p)
 
 pub sets-only-name : SetsOnlyName
 unfolding progressAsMarks
-sets-only-name table m q = run-as table m (going q)
+sets-only-name flow m q = run-as flow m (going q)

@@ -8,7 +8,7 @@ use native.Mathlib.Omega.{arith}
 use lib.Bits.{bitOr}
 use borrow.Author.Tests.{eqb-true, ne-eqb}
 use Rattle.chart.specs.Chart.{Chart}
-use Rattle.decode.specs.Decode.{boxAt, Box, assigns, decides, halts, meaning}
+use Rattle.decode.specs.Decode.{Box, assigns, decides, halts, flow}
 use Rattle.marks.specs.Marks.{modeOf, marked, union, decisionNotice, counterMark, haltNotice, namedBy, hides}
 use Rattle.machine.specs.Act.{entry, entries, act}
 use Rattle.machine.specs.Run.{Run, Ending, valued, notice, spent, Progress, going, over, settle, step, run}
@@ -18,7 +18,7 @@ use Rattle.begin.specs.Begin.{effective, has, allows}
 use Rattle.begin.proofs.Begins.{marks-all, zeros-at}
 use Rattle.calls.specs.Calls.{Call, begin}
 use Rattle.runner.specs.declared.Runner.{Runner}
-use Rattle.runner.specs.State.{chartIn, runIn, namedIn, endedWith, ran, resumed}
+use Rattle.runner.specs.State.{chartIn, runIn, namedIn, endedWith, flowIn, ran, resumed}
 use Rattle.runner.specs.Whole.{startOf}
 use Rattle.runner.specs.Outcomes.{Reply, done, chart, running, ended, ending, wrote, refused, Told}
 use Rattle.claims.specs.Lists.{Accepted, begun, tells, AllContinue}
@@ -53,8 +53,9 @@ ran-withheld n mode inputs allowed limit c =
     let k = c .header .inputs in
     let none = none-withheld allowed k in
     let first = startOf mode inputs allowed limit (c .header) in
-    kept-by (Carries (WithheldOnly allowed k)) (modeOf mode) (run (c .table) n (going first))
-    (run-carries (WithheldOnly allowed k) none (join-withheld allowed k) (c .table) n first
+    let boxes = flow (c .header .edition) (c .table) in
+    kept-by (Carries (WithheldOnly allowed k)) (modeOf mode) (run boxes n (going first))
+    (run-carries (WithheldOnly allowed k) none (join-withheld allowed k) boxes n first
     (record { marks = marks-all (WithheldOnly allowed k) allowed k none (own-withheld allowed k); counter = none }))
     (λ h. none)
 
@@ -105,10 +106,10 @@ settle-names q halts =
     let marks = haltNotice m (q .counter) (entry (q .marks) 31) in
     notice-by (Names (q .mode)) m marks (Value (entry (q .vars) 31)) q (notice-names (q .mode) marks) (λ e. value-names (q .mode) (entry (q .vars) 31))
 
-run-names : (table : List ℕ) (mode m : ℕ) (q : Run) → q .mode ≡ mode → Names mode (run table m (going q))
-run-names table mode m q e =
-    run-keeps table (Names mode)
-    (λ x h. subst (λ (k : ℕ). Names k (step table x)) h (settle-names x (meaning (boxAt table (x .at))))) m (going q) e
+run-names : (flow : ℕ → Box) (mode m : ℕ) (q : Run) → q .mode ≡ mode → Names mode (run flow m (going q))
+run-names flow mode m q e =
+    run-keeps flow (Names mode)
+    (λ x h. subst (λ (k : ℕ). Names k (step flow x)) h (settle-names x (flow (x .at)))) m (going q) e
 
 -- Where counts are hidden a notice names nothing, and that is not under surveillance.
 hidden-names : (mode : ℕ) → hides (modeOf mode) ≡ true → NamesBy mode (notice 0)
@@ -143,7 +144,7 @@ module _ (r : Runner) (mode : ℕ) (inputs : List ℕ) (allowed limit : ℕ) (a 
   told-names t m e steps h =
       let o = told-over t m e steps h in
       subst (Names mode) (o .1)
-      (kept-by (Names mode) (modeOf mode) (run (r .table) (o .0) (going (runIn start))) (run-names (r .table) mode (o .0) (runIn start) refl) (hidden-names mode))
+      (kept-by (Names mode) (modeOf mode) (run (flowIn r) (o .0) (going (runIn start))) (run-names (flowIn r) mode (o .0) (runIn start) refl) (hidden-names mode))
 
 pub marks-withheld : MarksWithheld
 marks-withheld r mode inputs allowed limit a cs q =

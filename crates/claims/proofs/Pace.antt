@@ -8,7 +8,7 @@ use mathlib.Core.Bool.{Bool, true, false, cond}
 use lib.Bits.{bitOr}
 use lib.Dec.{leb}
 use lib.ListN.{length, getD, set, length-set}
-use Rattle.decode.specs.Decode.{boxAt, Box, assigns, decides, halts, meaning}
+use Rattle.decode.specs.Decode.{Box, assigns, decides, halts}
 use Rattle.marks.specs.Marks.{modeOf, marked, union}
 use Rattle.marks.specs.declared.Mode.{Mode}
 use Rattle.marks.specs.declared.Mode.the-variants.{Surveillance, HighWater}
@@ -84,15 +84,15 @@ settle-pace q ms halts m c u = on (marked (bitOr (q .counter) (entry (q .marks) 
         let none = none-marked _ (u .under 31 (or-none (q .counter) _ (marked-none _ e) .1)) in
         rw none both
 
-module _ (table : List ℕ) where
-  onward-pace : {h s : Progress} → Pace h s → Pace (onward table h) (onward table s)
+module _ (flow : ℕ → Box) where
+  onward-pace : {h s : Progress} → Pace h s → Pace (onward flow h) (onward flow s)
   unfolding onward modeOf
-  onward-pace (lost l) = lost (onward-lost table l)
+  onward-pace (lost l) = lost (onward-lost flow l)
   onward-pace both = both
   onward-pace (level {q = q} ms m c u) =
-      subst (λ (k : Mode). Pace (stepBy table k q) (step table (beside q ms))) (sym m) (settle-pace q ms (meaning (boxAt table (q .at))) m c u)
+      subst (λ (k : Mode). Pace (stepBy flow k q) (step flow (beside q ms))) (sym m) (settle-pace q ms (flow (q .at)) m c u)
 
-  pub run-pace : (n : ℕ) {h s : Progress} → Pace h s → Pace (run table n h) (run table n s)
+  pub run-pace : (n : ℕ) {h s : Progress} → Pace h s → Pace (run flow n h) (run flow n s)
   unfolding run
   run-pace zero p = p
   run-pace (suc n) p = run-pace n (onward-pace p)

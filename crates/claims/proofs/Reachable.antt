@@ -19,7 +19,7 @@ use Rattle.format.proofs.Ranges.{in-range}
 use Rattle.chart.specs.Chart.{tableOf, Chart}
 use Rattle.chart_claims.specs.Claims.{BoxInRange}
 use Rattle.chart_claims.proofs.Rules.{stays-in-range}
-use Rattle.decode.specs.Decode.{boxAt, Box, meaning}
+use Rattle.decode.specs.Decode.{Box, flow}
 use Rattle.marks.specs.Marks.{modeOf, union, decisionNotice, counterMark, haltNotice}
 use Rattle.marks.specs.declared.Mode.{Mode}
 use Rattle.machine.specs.Act.{entry, entries, act}
@@ -33,7 +33,7 @@ use Rattle.calls.specs.declared.Verdict.{Verdict}
 use Rattle.calls.specs.declared.Verdict.the-variants.{Done, Refused}
 use Rattle.calls.proofs.Permits.{not-done, passed, permitted, advance-enough}
 use Rattle.runner.specs.declared.Runner.{Runner}
-use Rattle.runner.specs.State.{chartIn, isHeld, isRunning, isEnded, standingOf, endingIn, namedIn, runIn, withRun, underWay, idle, newRunner, endedWith, dropped, ran, resumed}
+use Rattle.runner.specs.State.{chartIn, isHeld, isRunning, isEnded, standingOf, endingIn, namedIn, runIn, withRun, underWay, idle, newRunner, endedWith, dropped, flowIn, ran, resumed}
 use Rattle.runner.specs.Whole.{startOf}
 use Rattle.runner.specs.Outcomes.{after, outcomeBy, call}
 use Rattle.claims.specs.Lists.{Reached, fresh, then}
@@ -107,16 +107,16 @@ module _ (h : Header) (q : Run) (u : RunInRange h q) where
       notice-by (Ranged h) m (haltNotice m (q .counter) (entry (q .marks) 31)) (Value (entry (q .vars) 31)) q (λ e. tt) (λ e. tt)
 
 module _ (h : Header) (table : List ℕ) (f : From h table) where
-  step-ranged : (q : Run) → RunInRange h q → Ranged h (step table q)
+  step-ranged : (q : Run) → RunInRange h q → Ranged h (step (flow (h .edition) table) q)
   step-ranged q u =
       let c = stays-in-range (f .file) h (f .checks) in
       let few : q .at < 204 = omega (arith, u .at, c .0 .fits) in
       let box : BoxInRange (h .boxes) (boxOf table (q .at)) =
       subst (λ (t : List ℕ). BoxInRange (h .boxes) (boxOf t (q .at))) (sym (f .loads)) (c .1 (q .at) (u .at)) in
-      settle-ranged h q u (modeOf (q .mode)) (meaning (boxAt table (q .at))) (goes-below (h .boxes) table (q .at) few box)
+      settle-ranged h q u (modeOf (q .mode)) (flow (h .edition) table (q .at)) (goes-below (h .boxes) (h .edition) table (q .at) few box)
 
-  run-ranged : (m : ℕ) (q : Run) → RunInRange h q → Ranged h (run table m (going q))
-  run-ranged m q u = run-keeps table (Ranged h) step-ranged m (going q) u
+  run-ranged : (m : ℕ) (q : Run) → RunInRange h q → Ranged h (run (flow (h .edition) table) m (going q))
+  run-ranged m q u = run-keeps (flow (h .edition) table) (Ranged h) step-ranged m (going q) u
 
 -- The runner that has come to it.
 resumed-sound : (r : Runner) → r .state ≡ 1 → From (r .header) (r .table) → UnderWay r → (p : Progress) → Ranged (r .header) p
@@ -167,11 +167,11 @@ advance-sound m r e h =
     let f = h .held (u .held) in
     let k = r .header .inputs in
     let mode = modeOf (r .mode) in
-    let come = run (r .table) m (going (runIn r)) in
+    let come = run (flowIn r) m (going (runIn r)) in
     resumed-sound r (eqb-true _ _ on) f u (ran m r)
     (kept-by (Ranged (r .header)) mode come (run-ranged (r .header) (r .table) f m (runIn r) (u .ranged)) (λ z. tt))
     (kept-by (Carries (InputsOf (r .header))) mode come
-    (run-carries (InputsOf (r .header)) (pow-pos k) (or-lt k) (r .table) m (runIn r) (u .sets)) (λ z. pow-pos k))
+    (run-carries (InputsOf (r .header)) (pow-pos k) (or-lt k) (flowIn r) m (runIn r) (u .sets)) (λ z. pow-pos k))
 
 outcome-sound : (v : Verdict) (c : Call) (r : Runner) → check c (standingOf r) ≡ v → Sound r → Sound (outcomeBy v c r .next)
 unfolding outcomeBy after dropped

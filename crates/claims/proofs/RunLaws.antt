@@ -6,7 +6,7 @@ use mathlib.Core.Bool.{Bool, true, false, cond, false≢true}
 use native.Mathlib.Nat.{zero-add, add-comm}
 use native.Mathlib.Omega.{arith}
 use borrow.Author.Tests.{eqb-true}
-use Rattle.decode.specs.Decode.{meaning}
+use Rattle.decode.specs.Decode.{Box, meaning}
 use Rattle.marks.specs.Marks.{modeOf, hides}
 use Rattle.marks.specs.declared.Mode.{Mode}
 use Rattle.marks.specs.declared.Mode.the-variants.{Bare, Surveillance, HighWater}
@@ -19,7 +19,7 @@ use Rattle.calls.specs.Calls.{Call, load, begin, advance, answer, abandon, writ
 use Rattle.calls.specs.declared.Verdict.{Verdict}
 use Rattle.calls.specs.declared.Verdict.the-variants.{Done, Refused}
 use Rattle.runner.specs.declared.Runner.{Runner}
-use Rattle.runner.specs.State.{chartIn, isRunning, leastIn, standingOf, runIn, ran, resumed}
+use Rattle.runner.specs.State.{chartIn, isRunning, leastIn, standingOf, runIn, flowIn, ran, resumed}
 use Rattle.runner.specs.Whole.{finish, whole}
 use Rattle.runner.specs.Outcomes.{Reply, running, ended, refused, Outcome, lent, progressReply, says, outcomeBy, call}
 use Rattle.claims.specs.Lists.{Accepted, final}
@@ -45,7 +45,7 @@ not-refused (writeBack b) r n d e = clash cc
 
 pub no-operation-stops : NoOperationStops
 unfolding act meaning
-no-operation-stops mode t op i j next k vars marks counter = (_, _, refl)
+no-operation-stops edition mode t op i j next k vars marks counter = (_, _, refl)
 
 pub refusal-changes-nothing : RefusalChangesNothing
 unfolding call outcomeBy
@@ -102,14 +102,14 @@ module _ (r : Runner) (mode : ℕ) (inputs : List ℕ) (allowed limit : ℕ) (a 
   begun-runs = ap isRunning begun
 
   abbrev inside : ℕ → Progress
-  inside m = run (r .table) m (going (runIn start))
+  inside m = run (flowIn r) m (going (runIn start))
 
-  from-here : (m : ℕ) → After (r .table) m (runIn start) (inside m)
-  from-here m = run-after (r .table) m (runIn start) (effective-positive limit)
+  from-here : (m : ℕ) → After (flowIn r) m (runIn start) (inside m)
+  from-here m = run-after (flowIn r) m (runIn start) (effective-positive limit)
 
   -- Boxes that reach the limit end it.
   pub reaches : (m : ℕ) → effective limit ≤ m → Over (ran m start)
-  reaches m enough = ran-over start refl m (run-ends (r .table) m (runIn start) (effective-positive limit) (omega arith))
+  reaches m enough = ran-over start refl m (run-ends (flowIn r) m (runIn start) (effective-positive limit) (omega arith))
 
   least-fits : (m : ℕ) → effective limit ≤ m → leastIn start ≤ m
   least-fits m enough = on (hides (modeOf mode))
@@ -138,7 +138,7 @@ module _ (r : Runner) (mode : ℕ) (inputs : List ℕ) (allowed limit : ℕ) (a 
     unfolding progressReply
     counts-running m s e = by (from-here m) (sym (reply-start m) ∙ e)
       where
-        by : {p : Progress} → After (r .table) m (runIn start) p → progressReply (modeOf mode) p ≡ running s → s ≡ m
+        by : {p : Progress} → After (flowIn r) m (runIn start) p → progressReply (modeOf mode) p ≡ running s → s ≡ m
         by (ended-within i c) z = clash cc
         by (counted-below {next = next} c b) z =
             let v : next .steps ≡ s = steps-once z in
@@ -152,7 +152,7 @@ module _ (r : Runner) (mode : ℕ) (inputs : List ℕ) (allowed limit : ℕ) (a 
     unfolding progressReply
     counts-ended m s e = by (from-here m) refl (sym (reply-start m) ∙ e)
       where
-        by : {p : Progress} → After (r .table) m (runIn start) p → inside m ≡ p → progressReply (modeOf mode) p ≡ ended s
+        by : {p : Progress} → After (flowIn r) m (runIn start) p → inside m ≡ p → progressReply (modeOf mode) p ≡ ended s
             → (1 ≤ s) × (s ≤ m) × (call (advance (s - 1)) start .told .reply ≡ running (s - 1)) × (call (advance s) start ≡ call (advance m) start)
         by (ended-within {e = k} {steps = steps} i c) there z =
             let v : steps ≡ s = steps-once (sym (over-reply k steps) ∙ z) in
@@ -224,10 +224,10 @@ stepsOf : Progress → ℕ
 stepsOf (going q) = q .steps
 stepsOf (over e steps) = steps
 
-after-within : (table : List ℕ) (m : ℕ) (q : Run) {p : Progress} → After table m q p → stepsOf p ≤ q .limit
+after-within : (flow : ℕ → Box) (m : ℕ) (q : Run) {p : Progress} → After flow m q p → stepsOf p ≤ q .limit
 unfolding stepsOf
-after-within table m q (ended-within i c) = c
-after-within table m q (counted-below c b) = omega arith
+after-within flow m q (ended-within i c) = c
+after-within flow m q (counted-below c b) = omega arith
 
 progress-within : (m : Mode) (p : Progress) (limit : ℕ) → stepsOf p ≤ limit → stepsTold (progressReply m p) ≤ limit
 unfolding progressReply stepsOf
@@ -247,8 +247,8 @@ within-limit r mode inputs allowed limit a cs q t m = by (replied-from s refl (b
 
     within : (n : ℕ) → stepsOf (ran n s) ≤ effective limit
     within n =
-        kept-by (λ (p : Progress). stepsOf p ≤ effective limit) (modeOf mode) (run (r .table) n (going (runIn s)))
-        (after-within (r .table) n (runIn s) (from-here r mode inputs allowed limit a n)) (λ h. omega arith)
+        kept-by (λ (p : Progress). stepsOf p ≤ effective limit) (modeOf mode) (run (flowIn r) n (going (runIn s)))
+        (after-within (flowIn r) n (runIn s) (from-here r mode inputs allowed limit a n)) (λ h. omega arith)
 
     by : {x : Reply} → Replied s refl x → stepsTold x ≤ effective limit
     by did = omega arith

@@ -6,7 +6,7 @@ use mathlib.Core.List.{List, [], _∷_}
 use mathlib.Core.Bool.{cond}
 use lib.Bits.{bitOr}
 use lib.ListN.{getD}
-use Rattle.decode.specs.Decode.{boxAt, Box, assigns, decides, halts, meaning}
+use Rattle.decode.specs.Decode.{Box, assigns, decides, halts}
 use Rattle.marks.specs.Marks.{modeOf, union, targetMark, decisionNotice, counterMark, haltNotice, namedBy}
 use Rattle.marks.specs.declared.Mode.{Mode}
 use Rattle.marks.proofs.MarkLaws.{by-mode}
@@ -61,6 +61,6 @@ module _ (P : ℕ → Type 0) (none : P 0) (join : (a b : ℕ) → P a → P b �
       (by-mode P m 0 output (bitOr (q .counter) output) none (h .marks 31) (join (q .counter) output (h .counter) (h .marks 31))))
       (λ e. none)
 
-  pub run-carries : (table : List ℕ) (m : ℕ) (q : Run) → AllSets P q → Carries P (run table m (going q))
-  run-carries table m q h =
-      run-keeps table (Carries P) (λ x y. settle-carries x (modeOf (x .mode)) (meaning (boxAt table (x .at))) y) m (going q) h
+  pub run-carries : (flow : ℕ → Box) (m : ℕ) (q : Run) → AllSets P q → Carries P (run flow m (going q))
+  run-carries flow m q h =
+      run-keeps flow (Carries P) (λ x y. settle-carries x (modeOf (x .mode)) (flow (x .at)) y) m (going q) h

@@ -10,7 +10,7 @@ use lib.Bits.{bitOr}
 use lib.Dec.{leb}
 use lib.ListN.{length, getD, set, length-set}
 use Rattle.chart.specs.WriteBack.{withFile}
-use Rattle.decode.specs.Decode.{boxAt, Box, assigns, decides, halts, meaning}
+use Rattle.decode.specs.Decode.{Box, assigns, decides, halts}
 use Rattle.marks.specs.Marks.{modeOf, marked, union, hides}
 use Rattle.marks.specs.declared.Mode.{Mode}
 use Rattle.marks.specs.declared.Mode.the-variants.{Surveillance, HighWater}
@@ -23,7 +23,7 @@ use Rattle.calls.specs.declared.Verdict.{Verdict}
 use Rattle.calls.specs.declared.Verdict.the-variants.{Done, Refused}
 use Rattle.calls.proofs.Permits.{advance-enough}
 use Rattle.runner.specs.declared.Runner.{Runner}
-use Rattle.runner.specs.State.{leastIn, standingOf, runIn, withRun, endedWith, dropped, ran, resumed}
+use Rattle.runner.specs.State.{leastIn, standingOf, runIn, withRun, endedWith, dropped, flowIn, ran, resumed}
 use Rattle.runner.specs.Outcomes.{Reply, Outcome, Effect, runs, keeps, begins, drops, replaces, effect, after, progressReply, says, lentAs, outcomeBy, call}
 use Rattle.claims.specs.Lists.{tells}
 use Rattle.claims.proofs.Branches.{clash, cond-both, set-each}
@@ -122,22 +122,22 @@ module _ (q : Run) (w : List ℕ) (h : Agree (q .marks) (q .vars) w) where
       on false e = rw (h .agree 31 (or-none (q .counter) _ (marked-none _ e) .1)) same-run
 
   -- The box at hand.
-  step-low : (table : List ℕ) {m : Mode} → Watched m q → Low m (step table q) (step table (withVars q w))
-  step-low table (surveyed m) =
-      subst (λ (k : Mode). Low Surveillance (stepBy table k q) (stepBy table k (withVars q w))) (sym m) (settle-surveyed (meaning (boxAt table (q .at))) m)
-  step-low table (unmarked m c) =
-      subst (λ (k : Mode). Low HighWater (stepBy table k q) (stepBy table k (withVars q w))) (sym m) (settle-unmarked (meaning (boxAt table (q .at))) m c)
+  step-low : (flow : ℕ → Box) {m : Mode} → Watched m q → Low m (step flow q) (step flow (withVars q w))
+  step-low flow (surveyed m) =
+      subst (λ (k : Mode). Low Surveillance (stepBy flow k q) (stepBy flow k (withVars q w))) (sym m) (settle-surveyed (flow (q .at)) m)
+  step-low flow (unmarked m c) =
+      subst (λ (k : Mode). Low HighWater (stepBy flow k q) (stepBy flow k (withVars q w))) (sym m) (settle-unmarked (flow (q .at)) m c)
 
-onward-low : (table : List ℕ) {m : Mode} {p p′ : Progress} → Low m p p′ → Low m (onward table p) (onward table p′)
+onward-low : (flow : ℕ → Box) {m : Mode} {p p′ : Progress} → Low m p p′ → Low m (onward flow p) (onward flow p′)
 unfolding onward
-onward-low table same-run = same-run
-onward-low table (runs-apart {q = q} w s h) = step-low q w h table s
-onward-low table (both-lost a b) = both-lost (onward-lost table a) (onward-lost table b)
+onward-low flow same-run = same-run
+onward-low flow (runs-apart {q = q} w s h) = step-low q w h flow s
+onward-low flow (both-lost a b) = both-lost (onward-lost flow a) (onward-lost flow b)
 
-run-low : (table : List ℕ) (n : ℕ) {m : Mode} {p p′ : Progress} → Low m p p′ → Low m (run table n p) (run table n p′)
+run-low : (flow : ℕ → Box) (n : ℕ) {m : Mode} {p p′ : Progress} → Low m p p′ → Low m (run flow n p) (run flow n p′)
 unfolding run
-run-low table zero h = h
-run-low table (suc n) h = run-low table n (onward-low table h)
+run-low flow zero h = h
+run-low flow (suc n) h = run-low flow n (onward-low flow h)
 
 -- What is kept of low-equal runs, where one that hides its counts is over: the same, or two runs apart under surveillance.
 data Close : Progress → Progress → Type 0 where
@@ -179,20 +179,20 @@ progress-close k (still-apart w s h) = refl
 module _ (r : Runner) (w : List ℕ) (s : r .state ≡ 1) {m : Mode} (g : Watched m (runIn r)) (b : hides m ≡ true → r .steps < r .limit)
     (h : Agree (r .marks) (r .vars) w) where
   ran-close : (k : ℕ) → check (advance k) (standingOf r) ≡ Done → Close (ran k r) (ran k (otherVars r w))
-  ran-close k e = by g (run-low (r .table) k (runs-apart {q = runIn r} w g h)) b
+  ran-close k e = by g (run-low (flowIn r) k (runs-apart {q = runIn r} w g h)) b
     where
       enough : leastIn r ≤ k
       enough = advance-enough k (standingOf r) e .1
 
       by : {m : Mode} → Watched m (runIn r)
-          → Low m (run (r .table) k (going (runIn r))) (run (r .table) k (going (withVars (runIn r) w)))
+          → Low m (run (flowIn r) k (going (runIn r))) (run (flowIn r) k (going (withVars (runIn r) w)))
           → (hides m ≡ true → r .steps < r .limit)
           → Close (ran k r) (ran k (otherVars r w))
       by (surveyed a) low below = rw a (kept-close low (λ z. absurd (false≢true z)))
       by (unmarked a c) low below =
           let most : r .limit ≤ k = rw a at enough in
           let under = below refl in
-          rw a (kept-close low (λ z. (run-ends (r .table) k (runIn r) under (omega arith), run-ends (r .table) k (withVars (runIn r) w) under (omega arith))))
+          rw a (kept-close low (λ z. (run-ends (flowIn r) k (runIn r) under (omega arith), run-ends (flowIn r) k (withVars (runIn r) w) under (omega arith))))
 
   says-low : (c : Call) → check c (standingOf r) ≡ Done → says c r ≡ says c (otherVars r w)
   unfolding says

@@ -1,13 +1,15 @@
 -- Claims about the charts that reachable runners hold, and the round trip of a file through the calls.
 use Prim.Native.Nat.{ℕ, _^_, _≤_, _<_}
 use mathlib.Core.Path.{_≡_}
-use mathlib.Core.List.{List, [], _++_}
+use mathlib.Core.List.{List, [], _∷_, _++_}
 use mathlib.Core.Bool.{true, false}
 use lib.ListN.{length, getD, take, drop}
 use Rattle.boxes.specs.Bytes.{allZero, boxOf}
-use Rattle.boxes.specs.Box.{wellFormed}
+use Rattle.boxes.specs.Box.{readable}
+use Rattle.format.specs.File.{boxRule}
 use Rattle.format.specs.declared.Header.{Header}
 use Rattle.chart_claims.specs.Claims.{HeaderInRange, BoxInRange}
+use Rattle.decode.specs.Decode.{Box, assigns, decides, halts, flow}
 use Rattle.machine.specs.Run.{Run}
 use Rattle.calls.specs.Calls.{Call, load, writeBack}
 use Rattle.runner.specs.declared.Runner.{Runner}
@@ -15,12 +17,23 @@ use Rattle.runner.specs.State.{isHeld, isRunning, isEnded, runIn, dropped}
 use Rattle.runner.specs.Outcomes.{chart, wrote, Effect, runs, keeps, begins, drops, replaces, effect, call}
 use Rattle.claims.specs.Lists.{Reached, Accepted, final, Along}
 
+-- "An operand that is read is an input below k or a variable 16 to 31.": so is every variable that a box reads where it is run.
+abbrev pub AllReadable : (k : ℕ) → List ℕ → Type 0
+AllReadable k [] = Unit {0}
+AllReadable k (v ∷ vs) = (readable k v ≡ true) × AllReadable k vs
+
+abbrev pub ReadsOnly : (k : ℕ) → Box → Type 0
+ReadsOnly k (assigns target reads gives next) = AllReadable k reads
+ReadsOnly k (decides reads holds next other) = AllReadable k reads
+ReadsOnly k halts = Unit {0}
+
 -- A chart that obeys the rules: its numbers are in range, its boxes well formed, and its table 0 past them.
 pub record Obeys (h : Header) (table : List ℕ) : Type 0 where
   pub long : length table ≡ 2040
   pub header : HeaderInRange h
-  pub formed : (p : ℕ) → p < h .boxes → wellFormed (h .inputs) (h .boxes) (boxOf table p) ≡ true
+  pub formed : (p : ℕ) → p < h .boxes → boxRule h (boxOf table p) ≡ true
   pub ranged : (p : ℕ) → p < h .boxes → BoxInRange (h .boxes) (boxOf table p)
+  pub reads : (p : ℕ) → p < h .boxes → ReadsOnly (h .inputs) (flow (h .edition) table p)
   pub zero : (p : ℕ) → h .boxes ≤ p → allZero (boxOf table p) ≡ true
 
 abbrev pub HeldObeys : Type 0

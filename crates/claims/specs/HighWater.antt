@@ -7,7 +7,7 @@ use Rattle.machine.specs.Run.{valued, notice, spent, Progress, going, over, run
 use Rattle.begin.specs.Begin.{effective}
 use Rattle.calls.specs.Calls.{advance, answer}
 use Rattle.runner.specs.declared.Runner.{Runner}
-use Rattle.runner.specs.State.{isRunning}
+use Rattle.runner.specs.State.{isRunning, flowIn}
 use Rattle.runner.specs.Whole.{startOf}
 use Rattle.runner.specs.Outcomes.{Reply, done, chart, running, ended, ending, wrote, refused, call}
 use Rattle.claims.specs.Lists.{Accepted, begun, final, Continued, AllTold, Ends}
@@ -45,7 +45,7 @@ HighWaterAnswers =
     Continued
     (λ r mode inputs allowed limit cs. mode ≡ 2
     → Ends cs (begun mode inputs allowed limit r)
-    → let boxes = run (r .table) (effective limit) (going (startOf mode inputs allowed (effective limit) (r .header))) in
+    → let boxes = run (flowIn r) (effective limit) (going (startOf mode inputs allowed (effective limit) (r .header))) in
     call answer (final cs (begun mode inputs allowed limit r)) .told ≡ record { reply = answerTo boxes; buffer = [] })
 
 -- An advance of a high-water run under way within a limit: "It refuses, with 13 and after 23, an advance by less than the run's limit", and no other; and one that

@@ -43,11 +43,11 @@ NotHighWater mode = modeOf mode ≢ HighWater
 abbrev pub AdvancesJoin : Type 0
 AdvancesJoin = AdvancesJoinWhere (λ r m. NotHighWater (r .mode) × NotEndedAfter r m)
 
--- "No operation stops a run": an assignment of any operation, on any operands, stores and goes on.
+-- "No operation stops a run": an assignment of any operation of any edition, on any operands, stores and goes on.
 abbrev pub NoOperationStops : Type 0
 NoOperationStops =
-    (mode : Mode) (target op left right next constant : ℕ) (vars marks : List ℕ) (counter : ℕ)
-    → (value : ℕ) × (mark : ℕ) × (act mode (meaning (Assign target op left right next constant)) vars marks counter ≡ Store target value mark next)
+    (edition : ℕ) (mode : Mode) (target op left right next constant : ℕ) (vars marks : List ℕ) (counter : ℕ)
+    → (value : ℕ) × (mark : ℕ) × (act mode (meaning edition (Assign target op left right next constant)) vars marks counter ≡ Store target value mark next)
 
 -- What holds of every run at its start: after each accepted begin, of its mode, the number that its limit means and the runner handed back.
 abbrev pub AfterBegin : ((mode limit : ℕ) → Runner → Type 0) → Type 0

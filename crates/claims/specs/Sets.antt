@@ -5,6 +5,7 @@ use mathlib.Core.List.{List, [], _∷_, map}
 use mathlib.Core.Bool.{Bool, true, false, cond, not, _&&_, _||_}
 use lib.Dec.{eqb, ltb}
 use lib.ListN.{getD}
+use Rattle.decode.specs.Decode.{Box}
 use Rattle.marks.specs.Marks.{marked, union, targetMark, decisionNotice, counterMark, haltNotice}
 use Rattle.marks.specs.declared.Mode.{Mode}
 use Rattle.marks.specs.declared.Mode.the-variants.{Bare, Surveillance, HighWater}
@@ -93,7 +94,7 @@ progressAsMarks (over e steps) = over (endingAsMarks e) steps
 -- So the sets name inputs and do nothing else: a run whose sets are seen as marks goes through the same boxes with the same values to the same kind of
 -- ending in the same steps. By `EmptyWhereUnmarked` its rules are 01's.
 abbrev pub SetsOnlyName : Type 0
-SetsOnlyName = (table : List ℕ) (m : ℕ) (q : Run) → run table m (going (asMarks q)) ≡ progressAsMarks (run table m (going q))
+SetsOnlyName = (flow : ℕ → Box) (m : ℕ) (q : Run) → run flow m (going (asMarks q)) ≡ progressAsMarks (run flow m (going q))
 
 -- "a set of withheld inputs": each input in it is below k and not allowed.
 abbrev pub WithheldOnly : (allowed k set : ℕ) → Type 0

@@ -5,6 +5,7 @@ ghost use Rattle.claims.specs.Runs.{RefusalChangesNothing, AdvancesJoin,
 ghost use Rattle.claims.specs.Charts.{HeldObeys, RunsInRange, EndsInRange, LoadedIsWritten, WrittenIsLoaded};
 ghost use Rattle.claims.specs.Sets.{EmptyWhereUnmarked, SetsAreUnions, SetsOnlyName, MarksWithheld, NamesWithheld, SurveillanceNames, OthersNameNone};
 ghost use Rattle.claims.specs.HighWater.{HighWaterTells, HighWaterAnswers, HighWaterEnds};
+ghost use Rattle.claims.specs.Editions.{OthersAlike, BoxesAlike, CountersDontWrap};
 ghost use Rattle.claims.specs.Distinct.{RepliesDistinct};
 ghost use Rattle.claims.specs.Bounds.{AnswersAtTheLimit, RunsWithinBounds, WrittenIntoExactRoom, HeldWithinBounds, StatesWithinBounds, NamesWithinBounds};
 
@@ -13,5 +14,6 @@ pub fn promised()
     ensures { λ _. ⌜ Demand3 × OneFile × RefusalChangesNothing × AdvancesJoin × NoOperationStops × CountsBoxes × LimitEnds × OneAdvanceEnds × TellsWholeRun × WithinLimit × Cleared
         × HeldObeys × RunsInRange × EndsInRange × LoadedIsWritten × WrittenIsLoaded × RepliesDistinct
         × EmptyWhereUnmarked × SetsAreUnions × SetsOnlyName × MarksWithheld × NamesWithheld × SurveillanceNames × OthersNameNone × HighWaterTells × HighWaterAnswers × HighWaterEnds
+        × OthersAlike × BoxesAlike × CountersDontWrap
         × AnswersAtTheLimit × RunsWithinBounds × WrittenIntoExactRoom × HeldWithinBounds × StatesWithinBounds × NamesWithinBounds ⌝ }
 {}

@@ -1,4 +1,4 @@
--- "Box bytes, by position": the box that stands at a place of the table, and what it does.
+-- "Box bytes, by position": the box that stands at a place of the table, and what it does in a chart of an edition.
 use Prim.Native.Nat.{ℕ, _+_, _*_}
 use mathlib.Core.List.{List, [], _∷_}
 use mathlib.Core.Bool.{Bool, cond}
@@ -30,7 +30,11 @@ pub data Box : Type 0 where
   decides : (reads : List ℕ) (holds : List ℕ → Bool) (next other : ℕ) → Box
   halts : Box
 
-unfoldable pub meaning : FlowBox → Box
-meaning (Assign target op left right next constant) = assigns target (readBy op left right) (valueOf op constant) next
-meaning (Decide comparison left right next other) = decides (left ∷ right ∷ []) (compares comparison) next other
-meaning Halt = halts
+unfoldable pub meaning : (edition : ℕ) → FlowBox → Box
+meaning edition (Assign target op left right next constant) = assigns target (readBy edition op left right) (valueOf edition op constant) next
+meaning edition (Decide comparison left right next other) = decides (left ∷ right ∷ []) (compares comparison) next other
+meaning edition Halt = halts
+
+-- The flow of a chart: what the box of each number does. A run goes by it, and by nothing else of the chart.
+abbrev pub flow : (edition : ℕ) (table : List ℕ) → ℕ → Box
+flow edition table p = meaning edition (boxAt table p)

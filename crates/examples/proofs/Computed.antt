@@ -7,13 +7,15 @@ use lib.ListN.{set}
 use lib.Count.{onesIn, ones, ones-cat}
 use Rattle.machine.specs.Run.{valued}
 use Rattle.runner.specs.Outcomes.{done, chart, ended, ending}
+use Rattle.examples.specs.Cases.{Given, told, number, gives, replied, expected}
 use Rattle.examples.specs.Files.{fileCases, FileExamples}
-use Rattle.examples.specs.Runs.{Given, replies, number, gives, expected, markedCases, MarkedCases, namingCases, NamingCases, hiddenCases, HiddenCases}
+use Rattle.examples.specs.Runs.{markedCases, MarkedCases, namingCases, NamingCases, hiddenCases, HiddenCases}
+use Rattle.examples.specs.Editions.{editionCases, EditionCases}
 use Rattle.examples.proofs.Open.{files-open, runs-open}
 
 pub file-examples : FileExamples
-unfolding files-open fileCases
-file-examples = refl
+unfolding files-open gives expected fileCases
+file-examples = (refl, refl)
 
 -- The one bits of a number written twice, which is how those of a large number are counted.
 twice : (k n c : ℕ) → n < 2 ^ k → ones n ≡ c → ones (n * 2 ^ k + n) ≡ c + c
@@ -30,7 +32,7 @@ itself x l = let e : x + (2 ^ 32 - x) ≡ 2 ^ 32 = omega arith in ap (λ (n : �
 -- What is expected but for those two rows: the value that chart D ends with, and the one bits.
 rows : ℕ → ℕ → ℕ → List Given
 rows x value bits =
-    set (set (map expected (markedCases x)) 9 (replies (chart 1 2 ∷ done ∷ ended 2 ∷ ending (valued value) 2 ∷ []))) 17 (number bits)
+    set (set (map expected (markedCases x)) 9 (told (replied (chart 1 2 ∷ done ∷ ended 2 ∷ ending (valued value) 2 ∷ [])))) 17 (number bits)
 
 pub marked-cases : MarkedCases
 unfolding runs-open gives expected markedCases rows
@@ -43,3 +45,7 @@ naming-cases = (refl, refl)
 pub hidden-cases : HiddenCases
 unfolding runs-open gives expected hiddenCases
 hidden-cases = (refl, refl)
+
+pub edition-cases : EditionCases
+unfolding runs-open gives expected editionCases
+edition-cases = (refl, refl)

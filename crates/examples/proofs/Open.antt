@@ -1,4 +1,5 @@
 -- The definitions that a load and a run go through, by groups: a proof that opens the name of a group opens all that it names.
+use lib.Count.{trailingZeros}
 use Rattle.boxes.specs.Bytes.{allZero}
 use Rattle.boxes.specs.Box.{operandRule, assignmentRule, decisionRule, haltRule, wellFormed}
 use Rattle.format.specs.Search.{firstFrom}
@@ -6,7 +7,7 @@ use Rattle.format.specs.Block.{weighted, checksum, isSealed, seal}
 use Rattle.format.specs.File.{headerRule, placeRule, checkFile}
 use Rattle.chart.specs.Chart.{joined, tableOf, headerBody, bodyOf, fileOf}
 use Rattle.chart.specs.WriteBack.{withFile}
-use Rattle.operations.specs.Operation.{readBy, valueOfLeft, quotient, remainder, valueOfBoth, valueOf, compares}
+use Rattle.operations.specs.Operation.{readBy, valueOfLeft, sum, difference, quotient, remainder, valueOfBoth, valueOf, compares}
 use Rattle.marks.specs.Marks.{modeOf, union}
 use Rattle.decode.specs.Decode.{decode, boxAt, meaning}
 use Rattle.machine.specs.Act.{act}
@@ -17,13 +18,14 @@ use Rattle.runner.specs.State.{newRunner, endedWith, dropped, resumed}
 use Rattle.runner.specs.Outcomes.{after, progressReply, says, outcomeBy, call}
 use Rattle.claims.specs.Lists.{tells, final}
 use Rattle.examples.specs.Charts.{chartA, chartB, chartC, chartD, headE, boxesE, chartE, chartPair, chartChain, chartTwice, chartSum}
+use Rattle.examples.specs.Charts.{sumOne, sumTwo, differenceOne, differenceTwo, zerosOne, zerosTwo, fiveBlocks}
 
 unfoldable pub rules-open : Unit {0}
 unfolding allZero firstFrom weighted checksum isSealed operandRule assignmentRule decisionRule haltRule wellFormed headerRule placeRule checkFile
 rules-open = tt
 
 unfoldable pub files-open : Unit {0}
-unfolding rules-open chartA chartB chartC chartD headE boxesE chartE chartPair chartChain chartTwice chartSum
+unfolding rules-open chartA chartB chartC chartD headE boxesE chartE chartPair chartChain chartTwice chartSum sumOne sumTwo differenceOne differenceTwo zerosOne zerosTwo fiveBlocks
 files-open = tt
 
 unfoldable pub tables-open : Unit {0}
@@ -31,7 +33,7 @@ unfolding joined tableOf headerBody bodyOf seal fileOf withFile
 tables-open = tt
 
 unfoldable pub values-open : Unit {0}
-unfolding decode boxAt meaning readBy valueOfLeft quotient remainder valueOfBoth valueOf compares
+unfolding decode boxAt meaning readBy valueOfLeft trailingZeros sum difference quotient remainder valueOfBoth valueOf compares
 values-open = tt
 
 unfoldable pub marks-open : Unit {0}

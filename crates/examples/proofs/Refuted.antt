@@ -24,7 +24,7 @@ use Rattle.examples.specs.Refuted.{OneMore, OneLess, AdvancesPartAtTheEn
 use Rattle.examples.specs.Refuted.{HighWaterNamesNone, SurveillanceNamesSome, HighWaterAdvancesPart, HighWaterSumEndsNothing, HighWaterCountsNoBoxes, SurveillanceTellsCounts}
 use Rattle.examples.specs.Witnesses.{justLoaded}
 use Rattle.examples.proofs.Open.{runs-open}
-use Rattle.examples.proofs.Witnesses.{on-one-file, first-withheld, answered}
+use Rattle.examples.proofs.Witnesses.{on-one-file, one-withheld, answered}
 
 -- The first reply of a list.
 first : List Told → Reply
@@ -39,7 +39,7 @@ unfolding runs-open first
 bare-is-not-secret claim =
     let r = justLoaded chartB in
     let told = claim r r (0 ∷ []) (4 ∷ []) 0 0 0 (on-one-file chartB [] [] 0 0 SameLimit (0 ∷ []) (4 ∷ []) 0 0 0 refl tt tt refl refl refl) in
-    different-counts (ap first (told (first-withheld 0 refl 0 4 []) (advance limitForNone ∷ [])))
+    different-counts (ap first (told (one-withheld 0 [] refl 0 4 []) (advance limitForNone ∷ [])))
 
 pub another-mode-is-told : AnotherModeIsTold
 unfolding runs-open first
@@ -129,7 +129,7 @@ no-load-during-a-run claim =
 
 -- A chart of one box, a halt.
 halting : List ℕ
-halting = block (front 0 1 0) 51 3 ++ block halt 3 0
+halting = block (front 1 0 1 0) 51 3 ++ block halt 3 0
 
 -- Chart C is loaded over chart E. Before it, a begin with one input is accepted and so a load refused; after it, the begin is refused and the load
 -- of the chart that halts is not.

@@ -1,8 +1,9 @@
 -- The instances of demand 3: both runners have loaded one file, so they hold one chart; the rest is computation. Assumes nothing.
 use Prim.Native.Nat.{ℕ, zero, suc}
-use mathlib.Core.Path.{_≡_, refl, sym, _∙_}
-use mathlib.Core.List.{List, [], _∷_, List·Memᴰ·head, List·Memᴰ·tail}
+use mathlib.Core.Path.{_≡_, refl, ap, sym, _∙_}
+use mathlib.Core.List.{List, [], _∷_, _++_, List·Memᴰ·head, List·Memᴰ·tail}
 use mathlib.Core.Bool.{false, false≢true}
+use lib.ListN.{length, getD}
 use Rattle.begin.specs.Begin.{allows}
 use Rattle.calls.specs.Calls.{Call, load, begin, advance, answer}
 use Rattle.calls.proofs.Permits.{not-done}
@@ -14,8 +15,8 @@ use Rattle.claims.specs.Demand3.{AllowedAlike, Begins, SameLimit, tellsValue, S
 use Rattle.claims.specs.OneFile.{afterLoad, NoOtherChart}
 use Rattle.claims.proofs.OneFile.{reached-final, one-file-held}
 use Rattle.claims.proofs.Inputs.{none-has}
-use Rattle.examples.specs.Charts.{chartA, chartB, chartE}
-use Rattle.examples.specs.Witnesses.{justLoaded, runBare, SecrecyIsMet, NoticeIsTold, CountsAreHidden, AdvancesAreWhole, AnsweringIsMet}
+use Rattle.examples.specs.Charts.{chartA, chartB, chartE, zerosTwo}
+use Rattle.examples.specs.Witnesses.{justLoaded, runBare, SecrecyIsMet, NoticeIsTold, SecondEditionIsMet, CountsAreHidden, AdvancesAreWhole, AnsweringIsMet}
 use Rattle.examples.proofs.Open.{runs-open}
 
 -- Two begins on runners that have loaded one file.
@@ -37,10 +38,17 @@ on-one-file file past past′ mode mode′ Limits inputs inputs′ allowed limit
       accepted′ = a′;
     }
 
--- Nothing is asked of a first input that is withheld.
-pub first-withheld : (allowed : ℕ) → allows allowed 0 ≡ false → (a b : ℕ) (rest : List ℕ) → AllowedAlike allowed (a ∷ rest) (b ∷ rest)
-first-withheld allowed w a b rest zero e = absurd (false≢true (sym w ∙ e))
-first-withheld allowed w a b rest (suc j) e = refl
+-- Nothing is asked of an input that is withheld.
+elsewhere : (before : List ℕ) (a b : ℕ) (rest : List ℕ) (j : ℕ) → (j ≡ length before → ⊥) → getD (before ++ (a ∷ rest)) j 0 ≡ getD (before ++ (b ∷ rest)) j 0
+elsewhere [] a b rest zero n = absurd (n refl)
+elsewhere [] a b rest (suc j) n = refl
+elsewhere (x ∷ before) a b rest zero n = refl
+elsewhere (x ∷ before) a b rest (suc j) n = elsewhere before a b rest j (λ e. n (ap suc e))
+
+pub one-withheld : (allowed : ℕ) (before : List ℕ) → allows allowed (length before) ≡ false → (a b : ℕ) (rest : List ℕ)
+    → AllowedAlike allowed (before ++ (a ∷ rest)) (before ++ (b ∷ rest))
+one-withheld allowed before w a b rest j e =
+    elsewhere before a b rest j (λ q. false≢true (sym w ∙ ap (allows allowed) (sym q) ∙ e))
 
 -- An answer after an advance by 2 that tells a value.
 pub answered : (start : Runner) (v steps : ℕ) → tellsValue v steps ≡ call answer (call (advance 2) start .next) .told → SomeAnswer start v steps
@@ -51,7 +59,7 @@ pub secrecy-is-met : SecrecyIsMet
 unfolding runs-open
 secrecy-is-met = (
   on-one-file chartA [] (runBare (1 ∷ 2 ∷ [])) 1 1 SameLimit (7 ∷ 9 ∷ []) (8 ∷ 9 ∷ []) 2 0 4096 refl tt (tt, (tt, tt)) refl refl refl,
-  first-withheld 2 refl 7 8 (9 ∷ []),
+  one-withheld 2 [] refl 7 8 (9 ∷ []),
   refl,
 )
 
@@ -64,6 +72,16 @@ unfolding runs-open
 notice-is-told = (
   on-one-file chartA [] (runBare (1 ∷ 2 ∷ [])) 1 1 SameLimit (7 ∷ 9 ∷ []) (8 ∷ 3 ∷ []) 0 0 4096 refl tt (tt, (tt, tt)) refl refl refl,
   none-allowed (7 ∷ 9 ∷ []) (8 ∷ 3 ∷ []),
+  refl,
+)
+
+pub second-edition-is-met : SecondEditionIsMet
+unfolding runs-open
+second-edition-is-met = (
+  on-one-file zerosTwo [] (runBare (1 ∷ 2 ∷ [])) 1 1 SameLimit (8 ∷ 2 ∷ []) (8 ∷ 5 ∷ []) 1 0 4096 refl tt (tt, (tt, tt)) refl refl refl,
+  one-withheld 1 (8 ∷ []) refl 2 5 [],
+  refl,
+  refl,
   refl,
 )
 

@@ -1,29 +1,21 @@
--- What load's input checks answer: charts A to E, and files that break one rule each or several.
+-- What load's input checks answer: charts A to E, and files that break one rule each or several. The files of edition 2 are in `Editions.antt`.
 use Prim.Native.Nat.{ℕ}
-use mathlib.Core.Path.{_≡_}
-use mathlib.Core.List.{List, [], _∷_, _++_, map}
+use mathlib.Core.List.{List, [], _∷_, _++_}
 use lib.ListN.{take, replicate, set}
-use Rattle.format.specs.File.{refusal, checkFile}
+use Rattle.format.specs.File.{refusal}
 use Rattle.format.specs.declared.Checked.{Checked}
 use Rattle.format.specs.declared.Checked.the-variants.{Accepted, Refused}
 use Rattle.examples.specs.Charts.{block, front, assign, halt, halts, chartA, chartB, chartC, chartD, headE, boxesE, chartE}
+use Rattle.examples.specs.Cases.{Case, answers, Table}
 
--- A file and the answer of the checks.
-pub record FileCase : Type 0 where
-  pub file : List ℕ
-  pub answer : Checked
+abbrev pub accepted : (edition k n first : ℕ) → Checked
+accepted edition k n first = Accepted (record { edition = edition; inputs = k; boxes = n; first = first })
 
-abbrev pub case : List ℕ → Checked → FileCase
-case file answer = record { file = file; answer = answer }
-
-abbrev accepted : ℕ → ℕ → ℕ → Checked
-accepted k n first = Accepted (record { inputs = k; boxes = n; first = first })
-
-abbrev refused : ℕ → ℕ → Checked
+abbrev pub refused : ℕ → ℕ → Checked
 refused number detail = Refused (refusal number detail)
 
 -- Chart E with another block 0, or other boxes.
-abbrev withHead : List ℕ → ℕ → ℕ → List ℕ
+abbrev pub withHead : List ℕ → ℕ → ℕ → List ℕ
 withHead head low high = block head low high ++ boxesE
 
 abbrev withBoxes : List ℕ → ℕ → ℕ → List ℕ
@@ -31,43 +23,41 @@ withBoxes boxes low high = headE ++ block boxes low high
 
 -- A chart of 52 halts, with another block 2.
 abbrev with52 : List ℕ → ℕ → ℕ → List ℕ
-with52 boxes low high = block (front 1 52 0) 158 4 ++ block (halts 51) 3 150 ++ block boxes low high
+with52 boxes low high = block (front 1 1 52 0) 158 4 ++ block (halts 51) 3 150 ++ block boxes low high
 
-unfoldable pub fileCases : List FileCase
+unfoldable pub fileCases : List Case
 fileCases =
-    case chartA (accepted 2 3 0)
-    ∷ case chartB (accepted 1 4 0)
-    ∷ case chartC (accepted 0 1 0)
-    ∷ case chartD (accepted 1 2 0)
-    ∷ case chartE (accepted 1 2 0)
-    ∷ case (with52 halt 3 0) (accepted 1 52 0)
+    answers chartA (accepted 1 2 3 0)
+    ∷ answers chartB (accepted 1 1 4 0)
+    ∷ answers chartC (accepted 1 0 1 0)
+    ∷ answers chartD (accepted 1 1 2 0)
+    ∷ answers chartE (accepted 1 1 2 0)
+    ∷ answers (with52 halt 3 0) (accepted 1 1 52 0)
     -- 1: no bytes; a byte too few
-    ∷ case [] (refused 1 0)
-    ∷ case (take 1023 chartE) (refused 1 0)
+    ∷ answers [] (refused 1 0)
+    ∷ answers (take 1023 chartE) (refused 1 0)
     -- 2: block 1 alone; both blocks, and the letters too
-    ∷ case (set chartE 518 6) (refused 2 1)
-    ∷ case (set (set chartE 518 6) 0 71) (refused 2 0)
-    ∷ case (with52 halt 4 0) (refused 2 2)
-    -- 3: a letter; the edition
-    ∷ case (withHead (set (front 1 2 0) 0 71) 65 3) (refused 3 0)
-    ∷ case (withHead (set (front 1 2 0) 4 2) 69 3) (refused 3 0)
+    ∷ answers (set chartE 518 6) (refused 2 1)
+    ∷ answers (set (set chartE 518 6) 0 71) (refused 2 0)
+    ∷ answers (with52 halt 4 0) (refused 2 2)
+    -- 3: a letter
+    ∷ answers (withHead (set (front 1 1 2 0) 0 71) 65 3) (refused 3 0)
     -- 4: k 17; no box; a first box that is none; byte 8
-    ∷ case (withHead (front 17 2 0) 160 3) (refused 4 0)
-    ∷ case (withHead (front 1 0 0) 50 3) (refused 4 0)
-    ∷ case (withHead (front 1 2 2) 80 3) (refused 4 0)
-    ∷ case (withHead (front 1 2 0 ++ (1 ∷ [])) 73 3) (refused 4 0)
+    ∷ answers (withHead (front 1 17 2 0) 160 3) (refused 4 0)
+    ∷ answers (withHead (front 1 1 0 0) 50 3) (refused 4 0)
+    ∷ answers (withHead (front 1 1 2 2) 80 3) (refused 4 0)
+    ∷ answers (withHead (front 1 1 2 0 ++ (1 ∷ [])) 73 3) (refused 4 0)
     -- 5: 52 boxes in 1,024 bytes; 51 boxes in 1,536 bytes
-    ∷ case (withHead (front 1 52 0) 158 4) (refused 5 0)
-    ∷ case (withHead (front 1 51 0) 151 4 ++ replicate 512 0) (refused 5 0)
+    ∷ answers (withHead (front 1 1 52 0) 158 4) (refused 5 0)
+    ∷ answers (withHead (front 1 1 51 0) 151 4 ++ replicate 512 0) (refused 5 0)
     -- 6: target 15; a right operand that is not read; a constant that is not used; a place past the last box
-    ∷ case (withBoxes (assign 15 0 0 0 1 5 ++ halt) 105 0) (refused 6 0)
-    ∷ case (withBoxes (assign 31 1 0 16 1 0 ++ halt) 185 0) (refused 6 0)
-    ∷ case (withBoxes (assign 31 1 0 0 1 1 ++ halt) 112 0) (refused 6 0)
-    ∷ case (withBoxes (assign 31 0 0 0 1 5 ++ halt ++ halt) 200 0) (refused 6 2)
-    ∷ case (with52 (4 ∷ []) 4 0) (refused 6 51)
-    ∷ case (with52 (halt ++ (1 ∷ [])) 14 0) (refused 6 52)
+    ∷ answers (withBoxes (assign 15 0 0 0 1 5 ++ halt) 105 0) (refused 6 0)
+    ∷ answers (withBoxes (assign 31 1 0 16 1 0 ++ halt) 185 0) (refused 6 0)
+    ∷ answers (withBoxes (assign 31 1 0 0 1 1 ++ halt) 112 0) (refused 6 0)
+    ∷ answers (withBoxes (assign 31 0 0 0 1 5 ++ halt ++ halt) 200 0) (refused 6 2)
+    ∷ answers (with52 (4 ∷ []) 4 0) (refused 6 51)
+    ∷ answers (with52 (halt ++ (1 ∷ [])) 14 0) (refused 6 52)
     ∷ []
 
--- The checks answer each file so.
 abbrev pub FileExamples : Type 0
-FileExamples = map (λ (c : FileCase). checkFile (c .file)) fileCases ≡ map (λ (c : FileCase). c .answer) fileCases
+FileExamples = Table 24 fileCases

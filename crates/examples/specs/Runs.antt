@@ -1,62 +1,11 @@
 -- The cases that document 01 marks (P), in one table: runs from files, through the calls; results of operations; and E's checks. Then the inputs that
 -- notices name (02, a), and what high-water runs tell (02, b).
 use Prim.Native.Nat.{ℕ, _^_, _<_}
-use mathlib.Core.Path.{_≡_}
-use mathlib.Core.List.{List, [], _∷_, map}
-use mathlib.Core.Bool.{cond}
-use lib.Dec.{eqb}
-use lib.ListN.{length, replicate}
-use Rattle.format.specs.Block.{checksum}
-use Rattle.format.specs.File.{headerOf}
-use Rattle.operations.specs.Operation.{readBy, valueOf}
-use Rattle.machine.specs.Run.{Ending, valued, notice, spent}
-use Rattle.begin.specs.Begin.{effective}
-use Rattle.calls.specs.Calls.{load, begin, advance, answer}
-use Rattle.runner.specs.State.{newRunner}
-use Rattle.runner.specs.Outcomes.{Reply, done, chart, ended, ending, Told}
-use Rattle.claims.specs.Lists.{tells}
+use mathlib.Core.List.{List, [], _∷_}
+use lib.ListN.{replicate}
+use Rattle.machine.specs.Run.{valued, notice, spent}
 use Rattle.examples.specs.Charts.{chartA, chartB, chartC, chartD, headE, boxesE, chartE, chartPair, chartChain, chartTwice, chartSum}
-
--- A case: a chart's file, what begin is given, and the ending with its steps; an operation, its operands and its result; or a block and its check.
-pub data Case : Type 0 where
-  runs : (file : List ℕ) (mode : ℕ) (inputs : List ℕ) (allowed limit : ℕ) → Ending → (steps : ℕ) → Case
-  operates : (op left right result : ℕ) → Case
-  checks : (block : List ℕ) (check : ℕ) → Case
-
--- What a case gives: replies, or a number.
-pub data Given : Type 0 where
-  replies : List Reply → Given
-  number : ℕ → Given
-
--- What the definitions give: a new runner's replies to load, begin, advance to the limit and answer; the operation's result; the block's check.
-unfoldable pub gives : Case → Given
-gives (runs file mode inputs allowed limit e steps) =
-    replies
-    (map (λ (t : Told). t .reply)
-    (tells (load file ∷ begin mode inputs allowed limit ∷ advance (effective limit) ∷ answer ∷ []) newRunner))
-gives (operates op left right result) = number (valueOf op 0 (readBy op left right))
-gives (checks block check) = number (checksum block)
-
--- "mode (0 bare, 1 surveillance, 2 high-water)".
-abbrev bare : ℕ
-bare = 0
-
-abbrev surveillance : ℕ
-surveillance = 1
-
-abbrev highWater : ℕ
-highWater = 2
-
--- The steps that an advance is to tell with "ended". 02, b: "Advance in this mode tells only "ended" with 0 steps", high-water.
-abbrev stepsAtTheEnd : (mode steps : ℕ) → ℕ
-stepsAtTheEnd mode steps = cond (eqb mode highWater) 0 steps
-
--- What they are to give.
-unfoldable pub expected : Case → Given
-expected (runs file mode inputs allowed limit e steps) =
-    replies (chart (headerOf file .inputs) (headerOf file .boxes) ∷ done ∷ ended (stepsAtTheEnd mode steps) ∷ ending e steps ∷ [])
-expected (operates op left right result) = number result
-expected (checks block check) = number check
+use Rattle.examples.specs.Cases.{Case, runs, operates, checks, bare, surveillance, highWater, Table}
 
 -- The cases, where x is the input of D and of E, of which 01 says nothing. The sets that notices carry are 02's, a; and by 02, b, "01's charts .. change
 -- accordingly": a high-water notice tells 0 steps.
@@ -81,16 +30,16 @@ markedCases x =
     ∷ checks headE 832
     ∷ checks boxesE 137
     -- "(P) 4,294,967,295 plus 1 is 0; 0 minus 1 is 4,294,967,295; 7 by 0 leaves quotient 0, remainder 7; one bits of 4,294,967,295: 32."
-    ∷ operates 2 4294967295 1 0
-    ∷ operates 3 0 1 4294967295
-    ∷ operates 5 7 0 0
-    ∷ operates 6 7 0 7
-    ∷ operates 9 4294967295 0 32
+    ∷ operates 1 2 4294967295 1 0
+    ∷ operates 1 3 0 1 4294967295
+    ∷ operates 1 5 7 0 0
+    ∷ operates 1 6 7 0 7
+    ∷ operates 1 9 4294967295 0 32
     ∷ []
 
 -- All that 01 marks (P): the eighteen cases, whatever 32-bit number is the input of D and of E.
 abbrev pub MarkedCases : Type 0
-MarkedCases = (x : ℕ) → x < 2 ^ 32 → (length (markedCases x) ≡ 18) × (map gives (markedCases x) ≡ map expected (markedCases x))
+MarkedCases = (x : ℕ) → x < 2 ^ 32 → Table 18 (markedCases x)
 
 -- The inputs that notices name (02, a).
 unfoldable pub namingCases : List Case
@@ -110,7 +59,7 @@ namingCases =
     ∷ []
 
 abbrev pub NamingCases : Type 0
-NamingCases = (length namingCases ≡ 8) × (map gives namingCases ≡ map expected namingCases)
+NamingCases = Table 8 namingCases
 
 -- What high-water runs tell (02, b): a value with its count, and else "notice, steps 0, inputs 0".
 unfoldable pub hiddenCases : List Case
@@ -135,4 +84,4 @@ hiddenCases =
     ∷ []
 
 abbrev pub HiddenCases : Type 0
-HiddenCases = (length hiddenCases ≡ 12) × (map gives hiddenCases ≡ map expected hiddenCases)
+HiddenCases = Table 12 hiddenCases

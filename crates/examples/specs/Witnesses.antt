@@ -2,8 +2,9 @@
 -- run are told.
 use Prim.Native.Nat.{ℕ, _-_}
 use mathlib.Core.Path.{_≡_}
-use mathlib.Core.List.{List, [], _∷_, map}
+use mathlib.Core.List.{List, [], _∷_}
 use Rattle.chart.specs.Chart.{tableOf}
+use Rattle.decode.specs.Decode.{flow}
 use Rattle.machine.specs.Run.{valued, notice, going, over, run}
 use Rattle.begin.specs.Begin.{effective}
 use Rattle.calls.specs.Calls.{Call, load, begin, advance, answer, abandon, writeBack}
@@ -13,7 +14,8 @@ use Rattle.runner.specs.Outcomes.{Reply, done, running, ended, ending, refused}
 use Rattle.claims.specs.Lists.{begun, tells, AllContinue}
 use Rattle.claims.specs.Demand3.{AllowedAlike, Begins, SameLimit, SomeAnswer}
 use Rattle.claims.specs.OneFile.{afterLoad}
-use Rattle.examples.specs.Charts.{chartA, chartB, chartE}
+use Rattle.examples.specs.Charts.{chartA, chartB, chartE, zerosTwo}
+use Rattle.examples.specs.Cases.{replied}
 
 -- "their pasts may differ": a runner that has only loaded a file, and one that has run it bare since, to the ending.
 abbrev pub justLoaded : List ℕ → Runner
@@ -27,7 +29,7 @@ loadedAndRun file inputs = afterLoad file (runBare inputs) newRunner
 
 -- The replies of a list of calls; no byte is lent to be written.
 abbrev pub Replies : List Call → Runner → List Reply → Type 0
-Replies cs r rs = tells cs r ≡ map (λ (x : Reply). record { reply = x; buffer = [] }) rs
+Replies cs r rs = tells cs r ≡ replied rs
 
 -- The first half: chart A with input 0 withheld, 7 on the one side and 8 on the other, and limit 0 beside the 4,096 that it means.
 abbrev pub SecrecyIsMet : Type 0
@@ -43,6 +45,16 @@ NoticeIsTold =
     × AllowedAlike 0 (7 ∷ 9 ∷ []) (8 ∷ 3 ∷ [])
     × Replies (advance 4096 ∷ answer ∷ []) (begun 1 (7 ∷ 9 ∷ []) 0 0 (justLoaded chartA)) (ended 3 ∷ ending (notice 2) 3 ∷ [])
 
+-- And on a chart of edition 2: operation 11 of an allowed input and of a withheld one, 2 on the one side and 5 on the other, of which a bare run would give 2 and 3. The
+-- notice names input 1.
+abbrev pub SecondEditionIsMet : Type 0
+SecondEditionIsMet =
+    Begins 1 1 SameLimit (justLoaded zerosTwo) (loadedAndRun zerosTwo (1 ∷ 2 ∷ [])) (8 ∷ 2 ∷ []) (8 ∷ 5 ∷ []) 1 0 4096
+    × AllowedAlike 1 (8 ∷ 2 ∷ []) (8 ∷ 5 ∷ [])
+    × Replies (advance 4096 ∷ answer ∷ []) (begun 1 (8 ∷ 2 ∷ []) 1 0 (justLoaded zerosTwo)) (ended 2 ∷ ending (notice 2) 2 ∷ [])
+    × Replies (advance 4096 ∷ answer ∷ []) (begun 0 (8 ∷ 2 ∷ []) 1 0 (justLoaded zerosTwo)) (ended 2 ∷ ending (valued 2) 2 ∷ [])
+    × Replies (advance 4096 ∷ answer ∷ []) (begun 0 (8 ∷ 5 ∷ []) 1 0 (justLoaded zerosTwo)) (ended 2 ∷ ending (valued 3) 2 ∷ [])
+
 -- And in high-water mode: chart B with its input withheld, 0 on the one side and 4 on the other. Inside, the runs come to their notices in 3 boxes and in 4; what is
 -- told is the same on both sides, a refused advance included, and has no count.
 abbrev pub CountsAreHidden : Type 0
@@ -51,8 +63,8 @@ CountsAreHidden =
     let start′ = begun 2 (4 ∷ []) 0 4096 (loadedAndRun chartB (1 ∷ [])) in
     Begins 2 2 SameLimit (justLoaded chartB) (loadedAndRun chartB (1 ∷ [])) (0 ∷ []) (4 ∷ []) 0 0 4096
     × AllowedAlike 0 (0 ∷ []) (4 ∷ [])
-    × (run (tableOf chartB) 9 (going (runIn start)) ≡ over (notice 0) 3)
-    × (run (tableOf chartB) 9 (going (runIn start′)) ≡ over (notice 0) 4)
+    × (run (flow 1 (tableOf chartB)) 9 (going (runIn start)) ≡ over (notice 0) 3)
+    × (run (flow 1 (tableOf chartB)) 9 (going (runIn start′)) ≡ over (notice 0) 4)
     × Replies (advance 4095 ∷ advance 4096 ∷ answer ∷ []) start (refused 13 0 ∷ ended 0 ∷ ending (notice 0) 0 ∷ [])
     × Replies (advance 4095 ∷ advance 4096 ∷ answer ∷ []) start′ (refused 13 0 ∷ ended 0 ∷ ending (notice 0) 0 ∷ [])
 

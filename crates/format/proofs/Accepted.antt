@@ -11,7 +11,7 @@ use borrow.Author.Tests.{eqb-true, not-false}
 use Rattle.boxes.specs.Bytes.{at, part, allZero}
 use Rattle.format.specs.Search.{firstFailing}
 use Rattle.format.specs.Block.{isSealed}
-use Rattle.format.specs.File.{blockOf, blocksFor, headerOf, inRange, lengthRule, lettersRule, headerRule, placeRule, refusal, checkFile}
+use Rattle.format.specs.File.{blockOf, blocksFor, headerOf, isEdition, inRange, lengthRule, lettersRule, headerRule, placeRule, refusal, checkFile}
 use Rattle.format.specs.declared.Header.{Header}
 use Rattle.format.specs.declared.Checked.{Checked}
 use Rattle.format.specs.declared.Checked.the-variants as checked
@@ -20,13 +20,12 @@ use Rattle.format.proofs.Search.{all-hold}
 use Rattle.format.proofs.Places.{blocks-of}
 use Rattle.format.proofs.Ranges.{in-range}
 
--- What check 3 says of the first bytes.
+-- What check 3 says of the letters.
 pub record Letters (f : List ℕ) : Type 0 where
   pub f0 : at f 0 ≡ 70
   pub f1 : at f 1 ≡ 76
   pub f2 : at f 2 ≡ 79
   pub f3 : at f 3 ≡ 87
-  pub f4 : at f 4 ≡ 1
 
 pub record Accepted (f : List ℕ) (h : Header) : Type 0 where
   pub header : h ≡ headerOf f
@@ -38,24 +37,26 @@ pub record Accepted (f : List ℕ) (h : Header) : Type 0 where
   pub ranged : inRange h ≡ true
   pub rest : allZero (part f 8 502) ≡ true
   pub letters : Letters f
+  pub edition : isEdition (h .edition) ≡ true
   pub checks : (j : ℕ) → j < blocksFor (h .boxes) → isSealed (blockOf f j) ≡ true
-  pub places : (p : ℕ) → p < 51 * (blocksFor (h .boxes) - 1) → placeRule f (h .inputs) (h .boxes) p ≡ true
+  pub places : (p : ℕ) → p < 51 * (blocksFor (h .boxes) - 1) → placeRule f h p ≡ true
 
 -- A check that a file passed did not refuse it.
 passed : (b : Bool) {x : Checked} (number detail : ℕ) {h : Header} → cond b (checked.Refused (refusal number detail)) x ≡ checked.Accepted h → (b ≡ false) × (x ≡ checked.Accepted h)
 passed true number detail e = let z : _≡_ {A = ℕ} 0 1 = cc in absurd (omega arith)
 passed false number detail e = (refl, e)
 
-letters-of : (f : List ℕ) → lettersRule f ≡ true → Letters f
+letters-of : (f : List ℕ) → lettersRule f ≡ true → Letters f × (isEdition (headerOf f .edition) ≡ true)
 letters-of f e =
-    let r = every (eqb (at f 0) 70) (eqb (at f 1) 76 ∷ eqb (at f 2) 79 ∷ eqb (at f 3) 87 ∷ eqb (at f 4) 1 ∷ []) e in
-    record {
-      f0 = eqb-true (at f 0) 70 (r .0);
-      f1 = eqb-true (at f 1) 76 (r .1 .0);
-      f2 = eqb-true (at f 2) 79 (r .1 .1 .0);
-      f3 = eqb-true (at f 3) 87 (r .1 .1 .1 .0);
-      f4 = eqb-true (at f 4) 1 (r .1 .1 .1 .1 .0);
-    }
+    let r = every (eqb (at f 0) 70) (eqb (at f 1) 76 ∷ eqb (at f 2) 79 ∷ eqb (at f 3) 87 ∷ isEdition (headerOf f .edition) ∷ []) e in (
+      record {
+        f0 = eqb-true (at f 0) 70 (r .0);
+        f1 = eqb-true (at f 1) 76 (r .1 .0);
+        f2 = eqb-true (at f 2) 79 (r .1 .1 .0);
+        f3 = eqb-true (at f 3) 87 (r .1 .1 .1 .0);
+      },
+      r .1 .1 .1 .1 .0,
+    )
 
 pub accepted : (f : List ℕ) (h : Header) → checkFile f ≡ checked.Accepted h → Accepted f h
 unfolding checkFile headerRule
@@ -63,19 +64,20 @@ accepted f h e =
     let blocks = length f / 512 in
     let places = 51 * (blocks - 1) in
     let wrong = firstFailing (λ j. isSealed (blockOf f j)) blocks in
-    let broken = firstFailing (placeRule f (at f 5) (at f 6)) places in
+    let broken = firstFailing (placeRule f (headerOf f)) places in
     let one = passed (not (lengthRule (length f))) 1 0 e in
     let two = passed (ltb wrong blocks) 2 wrong (one .1) in
     let three = passed (not (lettersRule f)) 3 0 (two .1) in
     let four = passed (not (headerRule f)) 4 0 (three .1) in
-    let five = passed (not (eqb blocks (blocksFor (at f 6)))) 5 0 (four .1) in
+    let five = passed (not (eqb blocks (blocksFor (headerOf f .boxes)))) 5 0 (four .1) in
     let six = passed (ltb broken places) 6 broken (five .1) in
     let same : h ≡ headerOf f = cc (six .1) in
     let b = blocks-of (length f) (not-false _ (one .0)) in
     let rule = not-false (headerRule f) (four .0) in
     let ranged = and-left (inRange (headerOf f)) (allZero (part f 8 502)) rule in
     let s = in-range (headerOf f) ranged in
-    let size : blocks ≡ blocksFor (at f 6) = eqb-true _ _ (not-false _ (five .0)) in
+    let first = letters-of f (not-false _ (three .0)) in
+    let size : blocks ≡ blocksFor (headerOf f .boxes) = eqb-true _ _ (not-false _ (five .0)) in
     rw same
     (record {
       header = refl;
@@ -86,7 +88,8 @@ accepted f h e =
       start = s .start;
       ranged = ranged;
       rest = and-right (inRange (headerOf f)) (allZero (part f 8 502)) rule;
-      letters = letters-of f (not-false _ (three .0));
+      letters = first .0;
+      edition = first .1;
       checks = λ j l. all-hold (λ i. isSealed (blockOf f i)) blocks (two .0) j (omega arith);
-      places = λ p l. all-hold (placeRule f (at f 5) (at f 6)) places (six .0) p (omega arith);
+      places = λ p l. all-hold (placeRule f (headerOf f)) places (six .0) p (omega arith);
     })

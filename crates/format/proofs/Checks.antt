@@ -5,7 +5,6 @@ use mathlib.Core.List.{List}
 use mathlib.Core.Bool.{true, false}
 use lib.ListN.{length}
 use borrow.Author.Tests.{lt-ltb, le-ltb, eq-eqb, ne-eqb}
-use Rattle.boxes.specs.Bytes.{at}
 use Rattle.format.specs.Search.{firstFailing}
 use Rattle.format.specs.Block.{isSealed}
 use Rattle.format.specs.File.{blockOf, blocksFor, headerOf, lengthRule, lettersRule, headerRule, placeRule, refusal, checkFile}
@@ -23,7 +22,7 @@ module _ (f : List ℕ) where
   places = 51 * (blocks - 1)
 
   abbrev pub broken : ℕ
-  broken = firstFailing (placeRule f (at f 5) (at f 6)) places
+  broken = firstFailing (placeRule f (headerOf f)) places
 
 module _ (f : List ℕ) where
   pub tells-length : lengthRule (length f) ≡ false → Refused (refusal 1 0) ≡ checkFile f
@@ -53,17 +52,17 @@ pub record Past (f : List ℕ) : Type 0 where
   pub four : headerRule f ≡ true
 
 module _ (f : List ℕ) (p : Past f) where
-  pub tells-size : (blocks f ≡ blocksFor (at f 6) → ⊥) → Refused (refusal 5 0) ≡ checkFile f
+  pub tells-size : (blocks f ≡ blocksFor (headerOf f .boxes) → ⊥) → Refused (refusal 5 0) ≡ checkFile f
   unfolding checkFile
-  tells-size d = rw (p .one, le-ltb (wrong f) (blocks f) (p .two), p .three, p .four, ne-eqb (blocks f) (blocksFor (at f 6)) d)
+  tells-size d = rw (p .one, le-ltb (wrong f) (blocks f) (p .two), p .three, p .four, ne-eqb (blocks f) (blocksFor (headerOf f .boxes)) d)
 
-  module _ (five : blocks f ≡ blocksFor (at f 6)) where
+  module _ (five : blocks f ≡ blocksFor (headerOf f .boxes)) where
     pub tells-place : broken f < places f → Refused (refusal 6 (broken f)) ≡ checkFile f
     unfolding checkFile
     tells-place l =
-        rw (p .one, le-ltb (wrong f) (blocks f) (p .two), p .three, p .four, eq-eqb (blocks f) (blocksFor (at f 6)) five, lt-ltb (broken f) (places f) l)
+        rw (p .one, le-ltb (wrong f) (blocks f) (p .two), p .three, p .four, eq-eqb (blocks f) (blocksFor (headerOf f .boxes)) five, lt-ltb (broken f) (places f) l)
 
     pub tells-chart : places f ≤ broken f → Accepted (headerOf f) ≡ checkFile f
     unfolding checkFile
     tells-chart l =
-        rw (p .one, le-ltb (wrong f) (blocks f) (p .two), p .three, p .four, eq-eqb (blocks f) (blocksFor (at f 6)) five, le-ltb (broken f) (places f) l)
+        rw (p .one, le-ltb (wrong f) (blocks f) (p .two), p .three, p .four, eq-eqb (blocks f) (blocksFor (headerOf f .boxes)) five, le-ltb (broken f) (places f) l)

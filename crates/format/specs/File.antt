@@ -17,9 +17,9 @@ use Rattle.format.specs.declared.Checked.the-variants.{Accepted, Refused
 abbrev pub blockOf : List ℕ → ℕ → List ℕ
 blockOf f j = part f (512 * j) 512
 
--- Block 0: "byte 5 the number of inputs k"; "byte 6 the number of boxes n"; "byte 7 the first box run".
+-- Block 0: "byte 4 the edition"; "byte 5 the number of inputs k"; "byte 6 the number of boxes n"; "byte 7 the first box run".
 abbrev pub headerOf : List ℕ → Header
-headerOf f = record { inputs = at f 5; boxes = at f 6; first = at f 7 }
+headerOf f = record { edition = at f 4; inputs = at f 5; boxes = at f 6; first = at f 7 }
 
 -- "Each later block holds 51 boxes of ten bytes, box 0 first": where place p starts, and its ten bytes.
 abbrev pub placeStart : ℕ → ℕ
@@ -36,9 +36,13 @@ blocksFor n = 1 + (n + 50) / 51
 abbrev pub lengthRule : ℕ → Bool
 lengthRule bytes = eqb bytes 1024 || eqb bytes 1536 || eqb bytes 2048 || eqb bytes 2560
 
--- "3: the letters or the edition are wrong." The letters are FLOW, the edition is 1.
+-- 02, c: "an edition byte other than 1 or 2" is refused.
+abbrev pub isEdition : ℕ → Bool
+isEdition edition = eqb edition 1 || eqb edition 2
+
+-- "3: the letters or the edition are wrong." The letters are FLOW.
 abbrev pub lettersRule : List ℕ → Bool
-lettersRule f = eqb (at f 0) 70 && eqb (at f 1) 76 && eqb (at f 2) 79 && eqb (at f 3) 87 && eqb (at f 4) 1
+lettersRule f = eqb (at f 0) 70 && eqb (at f 1) 76 && eqb (at f 2) 79 && eqb (at f 3) 87 && isEdition (headerOf f .edition)
 
 -- "the number of inputs k, 0 to 16"; "the number of boxes n, 1 to 204"; "the first box run, below n".
 abbrev pub inRange : Header → Bool
@@ -48,9 +52,13 @@ inRange h = leb (h .inputs) 16 && leb 1 (h .boxes) && leb (h .boxes) 204 && ltb 
 unfoldable pub headerRule : List ℕ → Bool
 headerRule f = inRange (headerOf f) && allZero (part f 8 502)
 
+-- Ten bytes that break no rule of a box, in a chart of this header.
+abbrev pub boxRule : Header → List ℕ → Bool
+boxRule h b = wellFormed (h .edition) (h .inputs) (h .boxes) b
+
 -- "6: a box, or a place after the last box, breaks a rule." "places from n on are all 0".
-unfoldable pub placeRule : List ℕ → ℕ → ℕ → ℕ → Bool
-placeRule f k n p = cond (ltb p n) (wellFormed k n (placeOf f p)) (allZero (placeOf f p))
+unfoldable pub placeRule : List ℕ → Header → ℕ → Bool
+placeRule f h p = cond (ltb p (h .boxes)) (boxRule h (placeOf f p)) (allZero (placeOf f p))
 
 -- A refusal by document 01's number and detail.
 abbrev pub refusal : ℕ → ℕ → Refusal
@@ -63,11 +71,11 @@ checkFile f =
     let blocks = length f / 512 in
     let wrong = firstFailing (λ j. isSealed (blockOf f j)) blocks in
     let places = 51 * (blocks - 1) in
-    let broken = firstFailing (placeRule f (at f 5) (at f 6)) places in
+    let broken = firstFailing (placeRule f (headerOf f)) places in
     cond (not (lengthRule (length f))) (Refused (refusal 1 0))
     (cond (ltb wrong blocks) (Refused (refusal 2 wrong))
     (cond (not (lettersRule f)) (Refused (refusal 3 0))
     (cond (not (headerRule f)) (Refused (refusal 4 0))
-    (cond (not (eqb blocks (blocksFor (at f 6)))) (Refused (refusal 5 0))
+    (cond (not (eqb blocks (blocksFor (headerOf f .boxes)))) (Refused (refusal 5 0))
     (cond (ltb broken places) (Refused (refusal 6 broken))
     (Accepted (headerOf f)))))))

@@ -16,8 +16,9 @@ pub struct Refusal {
     pub detail: u32,
 }
 
-// Block 0's numbers of a chart: of inputs, of boxes, and of the first box run.
+// Block 0's numbers of a chart: the edition, the number of inputs, of boxes, and the first box run.
 pub struct Header {
+    pub edition: u8,
     pub inputs: u8,
     pub boxes: u8,
     pub first: u8,
@@ -60,10 +61,14 @@ fn letters_hold(file: &[u8]) -> bool
     requires { ⌜ 512 ≤ length (now file) ⌝ }
     ensures { λ r. ⌜ r ≡ lettersRule (now (file .entry)) ⌝ }
 {
-    (file[0] == b'F') & (file[1] == b'L') & (file[2] == b'O') & (file[3] == b'W') & (file[4] == 1)
+    (file[0] == b'F')
+        & (file[1] == b'L')
+        & (file[2] == b'O')
+        & (file[3] == b'W')
+        & ((file[4] == 1) | (file[4] == 2))
 }
 
-// The numbers of a header are those that a file can have.
+// The numbers of inputs and boxes and the first box are those that a file can have.
 pub fn in_range(header: Header) -> bool
     ensures { λ r. ⌜ r ≡ inRange header ⌝ }
 {
@@ -78,6 +83,7 @@ fn header_of(file: &[u8]) -> Header
     ensures { λ r. ⌜ r ≡ headerOf (now (file .entry)) ⌝ }
 {
     Header {
+        edition: file[4],
         inputs: file[5],
         boxes: file[6],
         first: file[7],
@@ -109,27 +115,27 @@ fn first_wrong(file: &[u8], blocks: usize) -> usize
 }
 
 // A box that obeys the rules, or past the last box ten zero bytes.
-fn place_holds(file: &[u8], k: u8, n: u8, p: usize) -> bool
+fn place_holds(file: &[u8], header: Header, p: usize) -> bool
     requires { ⌜ (p < 256) × (placeStart p + 10 ≤ length (now file)) ⌝ }
-    ensures { λ r. ⌜ r ≡ placeRule (now (file .entry)) k n p ⌝ }
+    ensures { λ r. ⌜ r ≡ placeRule (now (file .entry)) header p ⌝ }
 {
     let start = place_start(p as u32);
     let end = start + 10;
     let place = &file[start..end];
-    if p < widen::to_usize(n) {
-        return boxes::well_formed(k, n, place);
+    if p < widen::to_usize(header.boxes) {
+        return boxes::well_formed(header.edition, header.inputs, header.boxes, place);
     }
     boxes::all_zero(place)
 }
 
 // The first of a file's places that breaks a rule, or their number where none does.
-fn first_broken(file: &[u8], k: u8, n: u8, places: usize) -> usize
+fn first_broken(file: &[u8], header: Header, places: usize) -> usize
     requires { ⌜ (places < 256) × ((p : ℕ) → p < places → placeStart p + 10 ≤ length (now file)) ⌝ }
-    ensures { λ r. ⌜ r ≡ firstFailing (placeRule (now (file .entry)) k n) places ⌝ }
+    ensures { λ r. ⌜ r ≡ firstFailing (placeRule (now (file .entry)) header) places ⌝ }
 {
     let mut p: usize = 0;
     while p < places {
-        if !place_holds(file, k, n, p) {
+        if !place_holds(file, header, p) {
             return p;
         }
         p += 1;
@@ -157,12 +163,11 @@ pub fn check_file(file: &[u8]) -> Checked
         return refuse(4, 0);
     }
     let header = header_of(file);
-    let n = header.boxes;
-    if blocks != blocks_for(n) {
+    if blocks != blocks_for(header.boxes) {
         return refuse(5, 0);
     }
     let places = 51 * (blocks - 1);
-    let broken = first_broken(file, header.inputs, n, places);
+    let broken = first_broken(file, header, places);
     if broken < places {
         return refuse(6, broken as u32);
     }

@@ -3,12 +3,12 @@
 -- Assumes nothing.
 use Prim.Native.Nat.{ℕ, zero, suc, _+_, _-_, _<_, _≤_}
 use mathlib.Core.Path.{_≡_, refl, ap, sym, _∙_}
-use mathlib.Core.List.{List}
 use mathlib.Core.Bool.{Bool, true, false, cond, true≢false}
 use native.Mathlib.Nat.{suc-add, zero-add}
 use native.Mathlib.Omega.{arith}
 use lib.Dec.{leb}
 use borrow.Author.Tests.{leb-false}
+use Rattle.decode.specs.Decode.{Box}
 use Rattle.marks.specs.Marks.{marked, namedBy, hides}
 use Rattle.marks.specs.declared.Mode.{Mode}
 use Rattle.machine.specs.Act.{noticeOr}
@@ -16,34 +16,34 @@ use Rattle.machine.specs.Run.{Run, Ending, valued, notice, spent, Progre
 use Rattle.machine.specs.declared.Act.{Act}
 use Rattle.machine.specs.declared.Act.the-variants.{Store, Go, Value, Notice}
 
-module _ (table : List ℕ) where
-  pub run-add : (m n : ℕ) (p : Progress) → run table (m + n) p ≡ run table n (run table m p)
+module _ (flow : ℕ → Box) where
+  pub run-add : (m n : ℕ) (p : Progress) → run flow (m + n) p ≡ run flow n (run flow m p)
   unfolding run
   run-add zero n p = rw zero-add
-  run-add (suc m) n p = rw suc-add (run-add m n (onward table p))
+  run-add (suc m) n p = rw suc-add (run-add m n (onward flow p))
 
-  pub over-still : (m : ℕ) (e : Ending) (steps : ℕ) → run table m (over e steps) ≡ over e steps
+  pub over-still : (m : ℕ) (e : Ending) (steps : ℕ) → run flow m (over e steps) ≡ over e steps
   unfolding run onward
   over-still zero e steps = refl
   over-still (suc m) e steps = over-still m e steps
 
-  pub run-one : (n : ℕ) (q : Run) → 0 < n → run table n (going q) ≡ run table (n - 1) (step table q)
+  pub run-one : (n : ℕ) (q : Run) → 0 < n → run flow n (going q) ≡ run flow (n - 1) (step flow q)
   unfolding run onward
   run-one zero q h = let z : ⊥ = omega arith in absurd z
   run-one (suc n) q h =
       let e : suc n - 1 ≡ n = omega arith in
       rw e
 
-  pub run-none : (n : ℕ) (p : Progress) → n ≤ 0 → run table n p ≡ p
+  pub run-none : (n : ℕ) (p : Progress) → n ≤ 0 → run flow n p ≡ p
   unfolding run
   run-none zero p h = refl
   run-none (suc n) p h = let z : ⊥ = omega arith in absurd z
 
   -- What each box keeps, m boxes keep.
-  pub run-keeps : (Good : Progress → Type 0) → ((q : Run) → Good (going q) → Good (step table q)) → (m : ℕ) (p : Progress) → Good p → Good (run table m p)
+  pub run-keeps : (Good : Progress → Type 0) → ((q : Run) → Good (going q) → Good (step flow q)) → (m : ℕ) (p : Progress) → Good p → Good (run flow m p)
   unfolding run onward
   run-keeps Good f zero p h = h
-  run-keeps Good f (suc m) (going q) h = run-keeps Good f m (step table q) (f q h)
+  run-keeps Good f (suc m) (going q) h = run-keeps Good f m (step flow q) (f q h)
   run-keeps Good f (suc m) (over e steps) h = run-keeps Good f m (over e steps) h
 
 -- A box that goes on: the run is spent, or below its limit. One that may give a notice gives it, or does something else.
@@ -78,12 +78,12 @@ settle-as-begun first (Go next counter) q h = goes-by (AsBegun first) _ tt (λ l
 settle-as-begun first (Value v) q h = tt
 settle-as-begun first (Notice named) q h = tt
 
-pub run-as-begun : (table : List ℕ) (m : ℕ) (q : Run) → AsBegun q (run table m (going q))
-run-as-begun table m q = run-keeps table (AsBegun q) (λ x h. settle-as-begun q _ x h) m (going q) (refl, refl)
+pub run-as-begun : (flow : ℕ → Box) (m : ℕ) (q : Run) → AsBegun q (run flow m (going q))
+run-as-begun flow m q = run-keeps flow (AsBegun q) (λ x h. settle-as-begun q _ x h) m (going q) (refl, refl)
 
 -- A run that is over after n boxes is over so after more.
-pub over-twice : (table : List ℕ) (p : Progress) (e : Ending) (n steps m : ℕ) → run table n p ≡ over e steps → run table (n + m) p ≡ over e steps
-over-twice table p e n steps m h = run-add table n m p ∙ ap (run table m) h ∙ over-still table m e steps
+pub over-twice : (flow : ℕ → Box) (p : Progress) (e : Ending) (n steps m : ℕ) → run flow n p ≡ over e steps → run flow (n + m) p ≡ over e steps
+over-twice flow p e n steps m h = run-add flow n m p ∙ ap (run flow m) h ∙ over-still flow m e steps
 
 -- What is kept is what the run has come to, or a notice that names nothing in no steps, where counts are hidden.
 pub kept-by : (Good : Progress → Type 0) (m : Mode) (p : Progress) → Good p → (hides m ≡ true → Good (over (notice 0) 0)) → Good (kept m p)

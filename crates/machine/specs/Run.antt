@@ -4,7 +4,7 @@ use mathlib.Core.List.{List}
 use mathlib.Core.Bool.{cond}
 use lib.Dec.{leb}
 use lib.ListN.{set}
-use Rattle.decode.specs.Decode.{boxAt, meaning}
+use Rattle.decode.specs.Decode.{Box}
 use Rattle.marks.specs.Marks.{modeOf, hides}
 use Rattle.marks.specs.declared.Mode.{Mode}
 use Rattle.machine.specs.Act.{act}
@@ -51,19 +51,19 @@ settle (Go next counter) q = goesOn (moved q (q .vars) (q .marks) counter next)
 settle (Value v) q = over (valued v) (q .steps + 1)
 settle (Notice named) q = over (notice named) (q .steps + 1)
 
--- The box at hand is run.
-abbrev pub step : (table : List ℕ) → Run → Progress
-step table q = settle (act (modeOf (q .mode)) (meaning (boxAt table (q .at))) (q .vars) (q .marks) (q .counter)) q
+-- The box at hand is run, of a chart's flow.
+abbrev pub step : (flow : ℕ → Box) → Run → Progress
+step flow q = settle (act (modeOf (q .mode)) (flow (q .at)) (q .vars) (q .marks) (q .counter)) q
 
 -- One box, where the run is not over.
-unfoldable pub onward : (table : List ℕ) → Progress → Progress
-onward table (going q) = step table q
-onward table (over e steps) = over e steps
+unfoldable pub onward : (flow : ℕ → Box) → Progress → Progress
+onward flow (going q) = step flow q
+onward flow (over e steps) = over e steps
 
 -- "runs m boxes, or fewer if the run ends".
-unfoldable pub run : (table : List ℕ) → ℕ → Progress → Progress
-run table zero p = p
-run table (suc m) p = run table m (onward table p)
+unfoldable pub run : (flow : ℕ → Box) → ℕ → Progress → Progress
+run flow zero p = p
+run flow (suc m) p = run flow m (onward flow p)
 
 -- What is kept of what a run has come to. 02, b: "In high-water mode a notice and a spent run now end alike: notice, steps 0, inputs 0."
 unfoldable pub kept : Mode → Progress → Progress

@@ -1,8 +1,7 @@
 // The modes: what an assignment leaves on its target, what a decision and a halt do, and whether counts are hidden. A mark is a set of withheld inputs, a number
 // whose bit j is input j; 0 is no mark.
 ghost use mathlib.Core.Path.{_≡_};
-ghost use Rattle.operations.specs.Operation.{readBy};
-ghost use Rattle.marks.specs.Marks.{modeOf, union, byMode, targetMark, decisionNotice, counterMark, haltNotice, namedBy, hides};
+ghost use Rattle.marks.specs.Marks.{modeOf, byMode, targetMark, decisionNotice, counterMark, haltNotice, namedBy, hides};
 
 pub enum Mode {
     Bare,
@@ -18,17 +17,6 @@ pub fn mode_of(number: u8) -> Mode
         0 => Mode::Bare,
         1 => Mode::Surveillance,
         _ => Mode::HighWater,
-    }
-}
-
-// The union of the marks that operation `op` reads, of those of its left and right operands.
-pub fn read_mark(op: u8, left: u16, right: u16) -> u16
-    ensures { λ m. ⌜ m ≡ union (readBy op left right) ⌝ }
-{
-    match op {
-        0 => 0,
-        2..=8 => left | right,
-        _ => left,
     }
 }
 

@@ -1,4 +1,2 @@
--- Laws of the definitions in specs/, and of numbers, that the proofs cite.
-pub mod Past
+-- Laws of the definitions in specs/ that the proofs cite.
 pub mod ReadLaws
-pub mod Values

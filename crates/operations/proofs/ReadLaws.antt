@@ -1,4 +1,4 @@
--- What an operation reads depends on its number only: of the images of two things it reads the images of what it reads of the things.
+-- What an operation reads depends on the edition and its number only: of the images of two things it reads the images of what it reads of the things.
 -- Assumes nothing.
 use Prim.Native.Nat.{ℕ}
 use mathlib.Core.Path.{_≡_, refl}
@@ -7,9 +7,9 @@ use mathlib.Core.Bool.{Bool, true, false, cond}
 use Rattle.boxes.specs.Box.{readsLeft, readsRight}
 use Rattle.operations.specs.Operation.{readBy}
 
-pub read-map : {A B : Type 0} (f : A → B) (op : ℕ) (left right : A) → map f (readBy op left right) ≡ readBy op (f left) (f right)
+pub read-map : {A B : Type 0} (f : A → B) (edition op : ℕ) (left right : A) → map f (readBy edition op left right) ≡ readBy edition op (f left) (f right)
 unfolding readBy
-read-map f op left right = by (readsLeft op) (readsRight op)
+read-map f edition op left right = by (readsLeft op) (readsRight edition op)
   where
     by : (l r : Bool) → map f (cond l (left ∷ cond r (right ∷ []) []) []) ≡ cond l (f left ∷ cond r (f right ∷ []) []) []
     by true true = refl

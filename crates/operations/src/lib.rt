@@ -1,11 +1,39 @@
-// The twelve operations and the three comparisons.
+// The operations that read two values, and the three comparisons. The others are the kit's: one bits, leading and trailing zeros.
 ghost use mathlib.Core.Path.{_≡_};
 ghost use Prim.Native.Nat.{_*_, _%_, _^_, min, max};
 ghost use mathlib.Core.List.{[], _∷_};
-ghost use Rattle.operations.specs.Operation.{readBy, quotient, remainder, valueOf, compares};
+ghost use Rattle.operations.specs.Operation.{sum, difference, quotient, remainder, compares};
+
+// The sum modulo 4,294,967,296; in edition 2 the greatest number where the true sum is larger, which is where it has wrapped below an operand.
+pub fn sum(edition: u8, a: u32, b: u32) -> u32
+    ensures { λ r. ⌜ r ≡ sum edition a b ⌝ }
+{
+    let wrapped = std::num::wrapping_add_u32(a, b);
+    if edition != 2 {
+        return wrapped;
+    }
+    if wrapped < a {
+        return 4294967295;
+    }
+    wrapped
+}
+
+// The difference modulo 4,294,967,296; in edition 2 0 where right exceeds left.
+pub fn difference(edition: u8, a: u32, b: u32) -> u32
+    ensures { λ r. ⌜ r ≡ difference edition a b ⌝ }
+{
+    let wrapped = std::num::wrapping_sub_u32(a, b);
+    if edition != 2 {
+        return wrapped;
+    }
+    if a < b {
+        return 0;
+    }
+    wrapped
+}
 
 // The product modulo 4,294,967,296, over u64.
-fn product(a: u32, b: u32) -> u32
+pub fn product(a: u32, b: u32) -> u32
     ensures { λ r. ⌜ r ≡ a * b % 2 ^ 32 ⌝ }
 {
     let whole = (a as u64) * (b as u64);
@@ -13,49 +41,29 @@ fn product(a: u32, b: u32) -> u32
 }
 
 // The quotient, 0 when right is 0.
-fn quotient(a: u32, b: u32) -> u32
+pub fn quotient(a: u32, b: u32) -> u32
     ensures { λ r. ⌜ r ≡ quotient a b ⌝ }
 {
     if b == 0 { 0 } else { a / b }
 }
 
 // The remainder, left when right is 0.
-fn remainder(a: u32, b: u32) -> u32
+pub fn remainder(a: u32, b: u32) -> u32
     ensures { λ r. ⌜ r ≡ remainder a b ⌝ }
 {
     if b == 0 { a } else { a % b }
 }
 
-fn lesser(a: u32, b: u32) -> u32
+pub fn lesser(a: u32, b: u32) -> u32
     ensures { λ r. ⌜ r ≡ min a b ⌝ }
 {
     if a < b { a } else { b }
 }
 
-fn greater(a: u32, b: u32) -> u32
+pub fn greater(a: u32, b: u32) -> u32
     ensures { λ r. ⌜ r ≡ max a b ⌝ }
 {
     if a < b { b } else { a }
-}
-
-// What operation `op` gives, of the values of its left and right operands and its constant; what it does not read does not matter.
-pub fn result(op: u8, a: u32, b: u32, constant: u32) -> u32
-    ensures { λ r. ⌜ r ≡ valueOf op constant (readBy op a b) ⌝ }
-{
-    match op {
-        0 => constant,
-        1 => a,
-        2 => std::num::wrapping_add_u32(a, b),
-        3 => std::num::wrapping_sub_u32(a, b),
-        4 => product(a, b),
-        5 => quotient(a, b),
-        6 => remainder(a, b),
-        7 => lesser(a, b),
-        8 => greater(a, b),
-        9 => u32::count_ones(a),
-        10 => u32::leading_zeros(a),
-        _ => u32::trailing_zeros(a),
-    }
 }
 
 // Whether a comparison holds of two values.

@@ -8,7 +8,7 @@ use mathlib.Core.Bool.{Bool, false, cond}
 use native.Mathlib.Omega.{arith}
 use lib.Dec.{eqb}
 use borrow.Author.Tests.{le-leb, lt-leb}
-use Rattle.decode.specs.Decode.{boxAt, meaning}
+use Rattle.decode.specs.Decode.{boxAt, Box, meaning}
 use Rattle.decode.specs.declared.FlowBox.{FlowBox}
 use Rattle.format.specs.declared.Refusal.{Refusal}
 use Rattle.marks.specs.Marks.{modeOf, hides}
@@ -25,7 +25,7 @@ use Rattle.calls.specs.declared.Verdict.the-variants.{Done, Refused}
 use Rattle.runner.specs.declared.Runner.{Runner}
 use Rattle.runner.specs.declared.AdvanceTold.{AdvanceTold}
 use Rattle.runner.specs.declared.Remains.{Remains}
-use Rattle.runner.specs.State.{chartIn, standingOf, stateOf, valueIn, namedIn, runnerOf, runIn, withRun, noRun, endedWith, resumed}
+use Rattle.runner.specs.State.{chartIn, standingOf, stateOf, valueIn, namedIn, runnerOf, runIn, withRun, noRun, endedWith, flowIn, resumed}
 use Rattle.runner.specs.Outcomes.{outcome, progressReply, call}
 use Rattle.runner.specs.Outcomes as outcomes
 use Rattle.runner.specs.Replies.{advanceReply}
@@ -50,22 +50,23 @@ stored-more r s q vars marks counter h e =
     subst (Stored r) (sym (e ∙ ap (λ (x : Runner). placed x vars marks counter) h)) refl
 
 -- The box at hand of a runner s that has come from r, and the act that the code computed of it.
-pub acts : (s r : Runner) (mode : Mode) (at steps : ℕ) (b : FlowBox) (a : Act) → Stored r s → mode ≡ modeOf (r .mode)
-    → b ≡ boxAt (s .table) at → a ≡ act mode (meaning b) (s .vars) (s .marks) (s .counter)
-    → (x : Act) → a ≡ x → step (r .table) (seen s at steps) ≡ settle x (seen s at steps)
-acts s r mode at steps b a h em eb ea x d =
+pub acts : (s r : Runner) (edition : ℕ) (mode : Mode) (at steps : ℕ) (b : FlowBox) (a : Act) → Stored r s → edition ≡ r .header .edition → mode ≡ modeOf (r .mode)
+    → b ≡ boxAt (s .table) at → a ≡ act mode (meaning edition b) (s .vars) (s .marks) (s .counter)
+    → (x : Act) → a ≡ x → step (flowIn r) (seen s at steps) ≡ settle x (seen s at steps)
+acts s r edition mode at steps b a h ee em eb ea x d =
     let q = seen s at steps in
-    ap (λ (y : Runner). settle (act (modeOf (s .mode)) (meaning (boxAt (y .table) at)) (q .vars) (q .marks) (q .counter)) q) (sym h)
-    ∙ ap (λ (y : Runner). settle (act (modeOf (y .mode)) (meaning (boxAt (s .table) at)) (q .vars) (q .marks) (q .counter)) q) h
-    ∙ ap (λ (k : Mode). settle (act k (meaning (boxAt (s .table) at)) (q .vars) (q .marks) (q .counter)) q) (sym em)
-    ∙ ap (λ (y : FlowBox). settle (act mode (meaning y) (q .vars) (q .marks) (q .counter)) q) (sym eb)
+    ap (λ (y : Runner). settle (act (modeOf (s .mode)) (meaning (r .header .edition) (boxAt (y .table) at)) (q .vars) (q .marks) (q .counter)) q) (sym h)
+    ∙ ap (λ (y : Runner). settle (act (modeOf (y .mode)) (meaning (r .header .edition) (boxAt (s .table) at)) (q .vars) (q .marks) (q .counter)) q) h
+    ∙ ap (λ (k : Mode). settle (act k (meaning (r .header .edition) (boxAt (s .table) at)) (q .vars) (q .marks) (q .counter)) q) (sym em)
+    ∙ ap (λ (n : ℕ). settle (act mode (meaning n (boxAt (s .table) at)) (q .vars) (q .marks) (q .counter)) q) (sym ee)
+    ∙ ap (λ (y : FlowBox). settle (act mode (meaning edition y) (q .vars) (q .marks) (q .counter)) q) (sym eb)
     ∙ ap (λ (y : Act). settle y q) (sym ea ∙ d)
 
 -- A box that does not end the run has left s, and goes to a box.
-pub left : (table : List ℕ) (r s : Runner) (from steps : ℕ) (vars marks : List ℕ) (counter to at : ℕ) → s ≡ placed r vars marks counter → at ≡ to
-    → step table (seen r from steps) ≡ goesOn (moved (seen r from steps) vars marks counter to)
-    → step table (seen r from steps) ≡ goesOn (seen s at (steps + 1))
-left table r s from steps vars marks counter to at e d g =
+pub left : (flow : ℕ → Box) (r s : Runner) (from steps : ℕ) (vars marks : List ℕ) (counter to at : ℕ) → s ≡ placed r vars marks counter → at ≡ to
+    → step flow (seen r from steps) ≡ goesOn (moved (seen r from steps) vars marks counter to)
+    → step flow (seen r from steps) ≡ goesOn (seen s at (steps + 1))
+left flow r s from steps vars marks counter to at e d g =
     g ∙ ap (λ (n : ℕ). goesOn (seen (placed r vars marks counter) n (steps + 1))) (sym d) ∙ ap (λ (x : Runner). goesOn (seen x at (steps + 1))) (sym e)
 
 -- It makes the count equal the limit, or the run goes on.
@@ -78,22 +79,22 @@ unfolding goesOn
 goes-further q h = rw (lt-leb _ _ h)
 
 -- What m boxes of a run come to: it goes on in the runner s at a box after so many steps, or it is over.
-abbrev pub CameTo : (table : List ℕ) (m : ℕ) (q : Run) (s : Runner) (at end value named steps : ℕ) → Type 0
-CameTo table m q s at end value named steps =
-    ((end ≡ 1) × (steps < 2 ^ 16) × (run table m (going q) ≡ going (seen s at steps)))
-    ⊎ ((e : Ending) × (end ≡ stateOf e) × (value ≡ valueIn e) × (named ≡ namedIn e) × (run table m (going q) ≡ over e steps))
+abbrev pub CameTo : (flow : ℕ → Box) (m : ℕ) (q : Run) (s : Runner) (at end value named steps : ℕ) → Type 0
+CameTo flow m q s at end value named steps =
+    ((end ≡ 1) × (steps < 2 ^ 16) × (run flow m (going q) ≡ going (seen s at steps)))
+    ⊎ ((e : Ending) × (end ≡ stateOf e) × (value ≡ valueIn e) × (named ≡ namedIn e) × (run flow m (going q) ≡ over e steps))
 
 -- A run of m boxes that has come to q with n to go: the turn of the loop, and the end.
-module _ (table : List ℕ) (m n : ℕ) (first q : Run) (t : run table m (going first) ≡ run table n (going q)) (h : 0 < n) where
-  pub turned : (p : Progress) → step table q ≡ p → run table m (going first) ≡ run table (n - 1) p
-  turned p d = t ∙ run-one table n q h ∙ ap (run table (n - 1)) d
+module _ (flow : ℕ → Box) (m n : ℕ) (first q : Run) (t : run flow m (going first) ≡ run flow n (going q)) (h : 0 < n) where
+  pub turned : (p : Progress) → step flow q ≡ p → run flow m (going first) ≡ run flow (n - 1) p
+  turned p d = t ∙ run-one flow n q h ∙ ap (run flow (n - 1)) d
 
-  pub came-over : (e : Ending) (s : Runner) (at end value named steps : ℕ) → step table q ≡ over e (q .steps + 1) → end ≡ stateOf e → value ≡ valueIn e
+  pub came-over : (e : Ending) (s : Runner) (at end value named steps : ℕ) → step flow q ≡ over e (q .steps + 1) → end ≡ stateOf e → value ≡ valueIn e
       → named ≡ namedIn e
       → steps ≡ q .steps + 1
-      → CameTo table m first s at end value named steps
+      → CameTo flow m first s at end value named steps
   came-over e s at end value named steps d ee ev en es =
-      inr (e, ee, ev, en, turned _ d ∙ over-still table (n - 1) e (q .steps + 1) ∙ ap (over e) (sym es))
+      inr (e, ee, ev, en, turned _ d ∙ over-still flow (n - 1) e (q .steps + 1) ∙ ap (over e) (sym es))
 
 -- The state of an ending is not that of a run under way.
 pub no-ending : (e : Ending) → stateOf e ≡ 1 → ⊥
@@ -144,7 +145,7 @@ kept-reply m e steps =
 
 -- What advance leaves and tells where its boxes have come to s.
 module _ (m todo : ℕ) (r s next : Runner) (at end value named steps : ℕ) (told : AdvanceTold) (h : Stored r s)
-    (came : CameTo (r .table) todo (runIn r) s at end value named steps)
+    (came : CameTo (flowIn r) todo (runIn r) s at end value named steps)
     (stays : end ≡ 1 → next ≡ standsAt s at steps) (hidden : Bool) (hides-as : hidden ≡ hides (modeOf (r .mode)))
     (ends : (end ≡ 1 → ⊥) → next ≡ endsWith s (keeps hidden end steps named) value) where
   came-running : check (calls.advance m) (standingOf r) ≡ Done → todo ≡ m
@@ -153,7 +154,7 @@ module _ (m todo : ℕ) (r s next : Runner) (at end value named steps : ℕ) (to
   unfolding progressReply kept
   came-running on all t =
       let mode = modeOf (r .mode) in
-      let boxes : run (r .table) m (going (runIn r)) ≡ run (r .table) todo (going (runIn r)) = rw all in
+      let boxes : run (flowIn r) m (going (runIn r)) ≡ run (flowIn r) todo (going (runIn r)) = rw all in
       ⊎-elim
       (λ w. advance-runs m r next told (going (seen s at steps)) on (ap (kept mode) (boxes ∙ w .2)) (t ∙ rw (w .0)) (stands r s next at steps h (stays (w .0))))
       (λ w.
@@ -169,7 +170,7 @@ module _ (m todo : ℕ) (r s next : Runner) (at end value named steps : ℕ) (to
       → outcome (advanceReply told) [] next ≡ call (calls.advance m) r
   unfolding run resumed
   came-resting x off none t =
-      let boxes : going (runIn r) ≡ run (r .table) todo (going (runIn r)) = rw none in
+      let boxes : going (runIn r) ≡ run (flowIn r) todo (going (runIn r)) = rw none in
       ⊎-elim
       (λ w.
       let same : seen s at steps ≡ runIn r = going-once (sym (boxes ∙ w .2)) in

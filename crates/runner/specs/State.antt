@@ -6,12 +6,13 @@ use lib.Dec.{eqb, leb}
 use lib.ListN.{replicate}
 use Rattle.format.specs.File.{inRange}
 use Rattle.chart.specs.Chart.{Chart}
+use Rattle.decode.specs.Decode.{Box, flow}
 use Rattle.marks.specs.Marks.{modeOf, hides}
 use Rattle.machine.specs.Run.{Run, Ending, valued, notice, spent, Progress, going, over, run, kept}
 use Rattle.calls.specs.Calls.{Standing}
 use Rattle.runner.specs.declared.Runner.{Runner}
 
--- The chart in a runner. It holds one where the header is one that a file can have.
+-- The chart in a runner. It holds one where the header's numbers are those of a file; a new runner's are all 0.
 abbrev pub chartIn : Runner → Chart
 chartIn r = record { header = r .header; table = r .table }
 
@@ -95,7 +96,7 @@ idle c = runnerOf c noRun 0 0 0 0
 
 -- "A new runner holds no chart: its box table is 2,040 zero bytes."
 unfoldable pub newRunner : Runner
-newRunner = idle (record { header = record { inputs = 0; boxes = 0; first = 0 }; table = replicate 2040 0 })
+newRunner = idle (record { header = record { edition = 0; inputs = 0; boxes = 0; first = 0 }; table = replicate 2040 0 })
 
 -- "When a run ends or is dropped": the chart stays, with the ending or without.
 unfoldable pub endedWith : Ending → (steps : ℕ) → Runner → Runner
@@ -104,9 +105,12 @@ endedWith e steps r = runnerOf (chartIn r) noRun (stateOf e) steps (valueIn e) (
 unfoldable pub dropped : Runner → Runner
 dropped r = idle (chartIn r)
 
--- What m boxes of the run in a runner come to, as it is kept, and the runner that has come to it.
+-- What m boxes of the run in a runner come to, by the flow of the chart held and as it is kept; and the runner that has come to it.
+abbrev pub flowIn : Runner → ℕ → Box
+flowIn r = flow (r .header .edition) (r .table)
+
 abbrev pub ran : ℕ → Runner → Progress
-ran m r = kept (modeOf (r .mode)) (run (r .table) m (going (runIn r)))
+ran m r = kept (modeOf (r .mode)) (run (flowIn r) m (going (runIn r)))
 
 unfoldable pub resumed : Progress → Runner → Runner
 resumed (going q) r = withRun q r

@@ -90,6 +90,7 @@ impl Runner {
         ensures { λ r. ⌜ r ≡ newRunner ⌝ }
     {
         let header = Header {
+            edition: 0,
             inputs: 0,
             boxes: 0,
             first: 0,
@@ -188,6 +189,7 @@ impl Runner {
     pub fn advance(mut self, m: u32) -> Advanced
         ensures { λ r. ⌜ outcome (advanceReply (r .told)) [] (r .runner) ≡ call (advance m) self ⌝ }
     {
+        let edition = self.header.edition;
         let limit = self.limit as u32;
         let mode = marks::mode_of(self.mode);
         let hidden = marks::hides(mode);
@@ -202,7 +204,7 @@ impl Runner {
             todo = todo - 1;
             steps = steps + 1;
             let b = decode::box_at(&self.table, at);
-            let done = machine::run_box(mode, b, &self.vars, &self.marks, self.counter);
+            let done = machine::run_box(edition, mode, b, &self.vars, &self.marks, self.counter);
             match done {
                 Act::Store {
                     target,

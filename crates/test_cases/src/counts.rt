@@ -31,6 +31,9 @@ const WRITTEN: u32 = 47;
 // Notices that name no input, one, and more.
 const NAMED: u32 = 48;
 
+// Files loaded, by edition.
+const EDITION: u32 = 51;
+
 // Where a call is counted that told this; one that was just done is counted at `done`.
 pub fn place(t: Encoded, done: u32) -> u32 {
     let kind = t.kind;
@@ -57,4 +60,12 @@ pub fn named(t: Encoded) -> u32 {
         return NAMED + 2;
     }
     if inputs == 1 { NAMED + 1 } else { NAMED }
+}
+
+// Where a load is counted by the edition of its file; nowhere that is printed, where it was refused.
+pub fn edition(t: Encoded, edition: u32) -> u32 {
+    if t.kind != kinds::CHART {
+        return 0;
+    }
+    if edition == 1 { EDITION } else { EDITION + 1 }
 }

@@ -131,17 +131,17 @@ impl Pair {
         let next = loaded.runner;
         let t = loaded.told;
         self.turn(b"load", next, told::of_load(t), self.model.load(file), 0)
-            .hold()
+            .hold(byte(file, 4))
     }
 
-    // After a load: the numbers of the chart held.
-    fn hold(mut self) -> Pair {
+    // After a load of a file of an edition: the numbers of the chart held.
+    fn hold(mut self, edition: u32) -> Pair {
         let t = self.told;
         if t.kind == kinds::CHART {
             self.inputs = (t.first % 256) as u32;
             self.boxes = t.second;
         }
-        self
+        self.count(counts::edition(t, edition))
     }
 
     pub fn begin(self, mode: u32, inputs: &[u32], allowed: u32, limit: u32) -> Pair {

@@ -98,8 +98,9 @@ files loaded: 1024 bytes %, 1536 bytes %, 2048 bytes %, 2560 bytes %
 boxes: shown %, not shown %
 files written back: %
 notices that name: no input %, one %, more %
+files loaded: edition 1 %, edition 2 %
 ",
-        &all[25..51],
+        &all[25..53],
     );
     refusals(counts);
 }

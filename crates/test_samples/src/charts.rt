@@ -1,4 +1,4 @@
-// Random charts that obey the rules: of all sizes, with loops, every operation and comparison, and halts on many ways.
+// Random charts that obey the rules: of both editions and all sizes, with loops, every operation and comparison, and halts on many ways.
 use crate::files;
 use crate::files::File;
 use crate::files::low;
@@ -67,14 +67,23 @@ fn operation(state: &mut u64) -> u8 {
     low(below(state, 12))
 }
 
-fn assignment(state: &mut u64, k: u32, next: u8) -> [u8; 10] {
+// Whether an operation reads its right operand in an edition.
+fn reads_right(edition: u32, op: u8) -> bool {
+    match op {
+        1 | 9 | 10 => false,
+        11 => edition == 2,
+        _ => true,
+    }
+}
+
+fn assignment(state: &mut u64, edition: u32, k: u32, next: u8) -> [u8; 10] {
     let target = variable(state);
     let op = operation(state);
     let left = operand(state, k);
     let right = operand(state, k);
     let c = random::edge(state);
-    match op {
-        0 => [
+    if op == 0 {
+        return [
             1,
             target,
             op,
@@ -85,10 +94,12 @@ fn assignment(state: &mut u64, k: u32, next: u8) -> [u8; 10] {
             low(c / 256),
             low(c / 65536),
             low(c / 16777216),
-        ],
-        1 | 9 | 10 | 11 => [1, target, op, left, 0, next, 0, 0, 0, 0],
-        _ => [1, target, op, left, right, next, 0, 0, 0, 0],
+        ];
     }
+    if reads_right(edition, op) {
+        return [1, target, op, left, right, next, 0, 0, 0, 0];
+    }
+    [1, target, op, left, 0, next, 0, 0, 0, 0]
 }
 
 fn decision(state: &mut u64, k: u32, next: u8, other: u8) -> [u8; 10] {
@@ -98,11 +109,11 @@ fn decision(state: &mut u64, k: u32, next: u8, other: u8) -> [u8; 10] {
     [2, 0, comparison, left, right, next, other, 0, 0, 0]
 }
 
-fn random_box(state: &mut u64, k: u32, n: u32, p: u32) -> [u8; 10] {
+fn random_box(state: &mut u64, edition: u32, k: u32, n: u32, p: u32) -> [u8; 10] {
     let kind = below(state, 16);
     let next = next_box(state, n, p);
     if kind < 11 {
-        return assignment(state, k, next);
+        return assignment(state, edition, k, next);
     }
     if kind < 14 {
         let other = next_box(state, n, p);
@@ -111,9 +122,9 @@ fn random_box(state: &mut u64, k: u32, n: u32, p: u32) -> [u8; 10] {
     [3, 0, 0, 0, 0, 0, 0, 0, 0, 0]
 }
 
-fn put_boxes(state: &mut u64, file: &mut File, k: u32, n: u32) {
+fn put_boxes(state: &mut u64, file: &mut File, edition: u32, k: u32, n: u32) {
     for p in 0..n {
-        let b = random_box(state, k, n, p);
+        let b = random_box(state, edition, k, n, p);
         files::put_box(file, p, b);
     }
 }
@@ -123,9 +134,10 @@ pub fn make(state: &mut u64, file: &mut File) -> Shape {
     let n = boxes_number(state);
     let k = below(state, 17);
     let first = below(state, n);
+    let edition = 1 + below(state, 2);
     files::clear(file);
-    files::put_header(file, k, n, first);
-    put_boxes(state, file, k, n);
+    files::put_header(file, edition, k, n, first);
+    put_boxes(state, file, edition, k, n);
     files::mend(file);
     Shape {
         inputs: k,

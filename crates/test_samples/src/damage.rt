@@ -57,6 +57,12 @@ fn header_byte(state: &mut u64, file: &mut File, shape: Shape) {
     files::mend(file);
 }
 
+// Another edition, 0 to 3, or the same.
+fn edition_byte(state: &mut u64, file: &mut File) {
+    put(file, 4, low(below(state, 4)));
+    files::mend(file);
+}
+
 // One of the header's bytes that have to be 0.
 fn empty_byte(state: &mut u64, file: &mut File) {
     let kind = below(state, 4);
@@ -107,7 +113,7 @@ fn other_length(state: &mut u64, length: usize) -> usize {
 }
 
 fn once(state: &mut u64, file: &mut File, shape: Shape, length: usize) -> usize {
-    let kind = below(state, 12);
+    let kind = below(state, 13);
     match kind {
         0 | 1 => any_byte(state, file, length),
         2 | 3 => header_byte(state, file, shape),
@@ -115,6 +121,7 @@ fn once(state: &mut u64, file: &mut File, shape: Shape, length: usize) -> usize 
         5 | 6 | 7 => box_byte(state, file, shape),
         8 => byte_past_boxes(state, file, shape),
         9 => check_byte(state, file),
+        10 => edition_byte(state, file),
         _ => {
             return other_length(state, length);
         }

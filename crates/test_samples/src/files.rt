@@ -69,12 +69,12 @@ pub fn put_box(file: &mut File, p: u32, bytes: [u8; 10]) {
 }
 
 // Block 0 of a chart, without its check.
-pub fn put_header(file: &mut File, k: u32, n: u32, first: u32) {
+pub fn put_header(file: &mut File, edition: u32, k: u32, n: u32, first: u32) {
     file[0] = b'F';
     file[1] = b'L';
     file[2] = b'O';
     file[3] = b'W';
-    file[4] = 1;
+    file[4] = low(edition);
     file[5] = low(k);
     file[6] = low(n);
     file[7] = low(first);
@@ -128,10 +128,10 @@ fn put_loops(file: &mut File, n: u32) {
     }
 }
 
-// A chart of n boxes, each chart C's; with k 0 and n 1 it is chart C.
+// A chart of edition 1 and of n boxes, each chart C's; with k 0 and n 1 it is chart C.
 pub fn put_chart(file: &mut File, k: u32, n: u32) {
     clear(file);
-    put_header(file, k, n, 0);
+    put_header(file, 1, k, n, 0);
     put_loops(file, n);
     mend(file);
 }

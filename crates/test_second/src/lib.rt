@@ -1,4 +1,5 @@
-// A second interpreter of charts: it keeps the loaded file's bytes and reads each box out of them.
+// A second interpreter of charts, of edition 1 and of edition 2: it keeps the loaded file's bytes and
+// reads each box out of them.
 // Every call is total: no argument and no model is excluded.
 ghost use Prim.Native.Nat.{_≤_};
 

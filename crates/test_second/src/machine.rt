@@ -1,7 +1,9 @@
 // A run: its variables and marks, and the boxes that it takes out of the file one by one.
+use crate::blocks::byte;
 use crate::blocks::constant;
 use crate::blocks::field;
 use crate::numbers::compares;
+use crate::numbers::meaning_of;
 use crate::numbers::result;
 use crate::rules::reads_left;
 use crate::rules::reads_right;
@@ -59,14 +61,14 @@ pub fn begun(vars: [u32; 32], set: u32, mode: u32, first: u32, limit: u32) -> Ru
     }
 }
 
-// The variables that an operation reads, bit v for variable v; an operand that it does not read
-// counts for nothing.
-fn read_by(operation: u32, left: u32, right: u32) -> u32 {
+// The variables that an operation of this meaning reads, bit v for variable v; an operand that it
+// does not read counts for nothing.
+fn read_by(meaning: u32, left: u32, right: u32) -> u32 {
     let mut read: u32 = 0;
-    if reads_left(operation) {
+    if reads_left(meaning) {
         read = bit(left);
     }
-    if reads_right(operation) {
+    if reads_right(meaning) {
         read = read | bit(right);
     }
     read
@@ -128,7 +130,7 @@ fn assigned(mut run: Run, file: &[u8]) -> Run {
     let mode = run.mode;
     let marks = run.marks;
     let target = field(file, at, 1);
-    let operation = field(file, at, 2);
+    let meaning = meaning_of(byte(file, 4), field(file, at, 2));
     let left = field(file, at, 3);
     let right = field(file, at, 4);
     let i = (left % 32) as usize;
@@ -136,9 +138,9 @@ fn assigned(mut run: Run, file: &[u8]) -> Run {
     let t = (target % 32) as usize;
     let x = run.vars[i];
     let y = run.vars[j];
-    let z = result(operation, constant(file, at), x, y);
+    let z = result(meaning, constant(file, at), x, y);
     run.vars[t] = z;
-    let after = marks_after(mode, marks, target, read_by(operation, left, right));
+    let after = marks_after(mode, marks, target, read_by(meaning, left, right));
     run.marks = after;
     run.at = field(file, at, 5);
     run

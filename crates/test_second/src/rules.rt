@@ -5,6 +5,7 @@ use crate::blocks::constant;
 use crate::blocks::differing;
 use crate::blocks::field;
 use crate::blocks::start;
+use crate::numbers::meaning_of;
 
 // The refusal of a file and its detail; `number` is 0 where the file is accepted.
 pub struct Verdict {
@@ -55,13 +56,14 @@ pub fn judged(file: &[u8]) -> Verdict {
     refusal(0, 0)
 }
 
-// The letters FLOW and the edition.
+// The letters FLOW and the edition, 1 or 2.
 fn has_letters(file: &[u8]) -> bool {
+    let edition = byte(file, 4);
     (byte(file, 0) == 70)
         & (byte(file, 1) == 76)
         & (byte(file, 2) == 79)
         & (byte(file, 3) == 87)
-        & (byte(file, 4) == 1)
+        & ((edition == 1) | (edition == 2))
 }
 
 // The number of inputs, the number of boxes, the first box and the zeros of block 0.
@@ -112,8 +114,9 @@ fn assignment_holds(file: &[u8], place: u32) -> bool {
         return false;
     }
     let k = byte(file, 5);
-    operand_holds(field(file, place, 3), k, reads_left(operation))
-        & operand_holds(field(file, place, 4), k, reads_right(operation))
+    let meaning = meaning_of(byte(file, 4), operation);
+    operand_holds(field(file, place, 3), k, reads_left(meaning))
+        & operand_holds(field(file, place, 4), k, reads_right(meaning))
 }
 
 fn decision_holds(file: &[u8], place: u32) -> bool {
@@ -141,10 +144,11 @@ fn operand_holds(variable: u32, k: u32, is_read: bool) -> bool {
     }
 }
 
-pub fn reads_left(operation: u32) -> bool {
-    operation != 0
+pub fn reads_left(meaning: u32) -> bool {
+    meaning != 0
 }
 
-pub fn reads_right(operation: u32) -> bool {
-    (2 <= operation) & (operation <= 8)
+// The meanings 12 to 14, which are edition 2's own, read both operands.
+pub fn reads_right(meaning: u32) -> bool {
+    ((2 <= meaning) & (meaning <= 8)) | (12 <= meaning)
 }

@@ -22,6 +22,9 @@ shared-slice-read-operand-holds c = search needs
 operand-holds-requires : tie.Need-operand-holds-requires
 operand-holds-requires c κs = search needs
 
+reads-right-requires : tie.Need-reads-right-requires
+reads-right-requires c κs = search needs
+
 shared-slice-read-operand-holds-2 : tie.Need-shared-slice-read-operand-holds-2
 shared-slice-read-operand-holds-2 c = search needs
 
@@ -45,7 +48,9 @@ all-zero-requires c κs = search needs
 
 returns : tie.Need-returns
 unfolding assignmentRule
-returns c = rw (c .all-zero .ensures, c .before .before .before .operand-holds2 .ensures, c .before .before .before .before .before .operand-holds .ensures)
+returns c =
+    let right = c .before .before .before in
+    rw (c .all-zero .ensures, right .operand-holds2 .ensures, right .before .before .reads-right .ensures, right .before .before .before .operand-holds .ensures)
 
 pub assignment-holds-spec : {M : Type 1} → statement M
 assignment-holds-spec =
@@ -57,6 +62,7 @@ assignment-holds-spec =
     shared-slice-read-result-3
     shared-slice-read-operand-holds
     operand-holds-requires
+    reads-right-requires
     shared-slice-read-operand-holds-2
     operand-holds-requires-2
     shared-slice-read-result-4

@@ -1,9 +1,9 @@
 -- `promised` holds the claims of this crate: each by its theorem.
-use Rattle.examples.proofs.Computed.{file-examples, marked-cases, naming-cases, hidden-cases}
+use Rattle.examples.proofs.Computed.{file-examples, marked-cases, naming-cases, hidden-cases, edition-cases}
 use Rattle.examples.proofs.Refuted.{bare-is-not-secret, another-mode-is-told, another-limit-is-told, bare-answers-more, smaller-limit-answers-less}
 use Rattle.examples.proofs.Refuted.{advances-part-at-the-end, no-load-during-a-run, another-load-is-told, high-water-names-none, surveillance-names-some}
 use Rattle.examples.proofs.Refuted.{high-water-advances-part, high-water-sum-ends-nothing, high-water-counts-no-boxes, surveillance-tells-counts}
-use Rattle.examples.proofs.Witnesses.{secrecy-is-met, notice-is-told, counts-are-hidden, advances-are-whole, answering-is-met}
+use Rattle.examples.proofs.Witnesses.{secrecy-is-met, notice-is-told, second-edition-is-met, counts-are-hidden, advances-are-whole, answering-is-met}
 use Rattle.examples.proofs.promised.Statement.{statement}
 use Rattle.examples.proofs.promised.Tie as tie
 
@@ -13,6 +13,7 @@ returns c = (
   marked-cases,
   naming-cases,
   hidden-cases,
+  edition-cases,
   bare-is-not-secret,
   another-mode-is-told,
   another-limit-is-told,
@@ -29,6 +30,7 @@ returns c = (
   surveillance-tells-counts,
   secrecy-is-met,
   notice-is-told,
+  second-edition-is-met,
   counts-are-hidden,
   advances-are-whole,
   answering-is-met,

@@ -7,8 +7,7 @@ use native.Mathlib.Omega.{arith}
 use lib.ListN.{length}
 use denote.Ref.{now}
 use borrow.Author.Tests.{not-true, not-false}
-use Rattle.boxes.specs.Bytes.{at}
-use Rattle.format.specs.File.{blocksFor, lengthRule, lettersRule, placeRule, refusal}
+use Rattle.format.specs.File.{blocksFor, headerOf, lengthRule, lettersRule, placeRule, refusal}
 use Rattle.format.specs.Search.{firstFailing}
 use Rattle.format.specs.declared.Header.{Header}
 use Rattle.format.specs.declared.Checked.the-variants.{Accepted, Refused}
@@ -40,10 +39,10 @@ past c =
     }
 
 -- The blocks that the size is held to.
-size-is : (c : tie.After-blocks-for) → c .blocks-for .result ≡ blocksFor (at (now (c .before .before .before .before .before .before .before .before .before .before .before .args .file)) 6)
+size-is : (c : tie.After-blocks-for) → c .blocks-for .result ≡ blocksFor (headerOf (now (c .before .before .before .before .before .before .before .before .before .before .before .args .file)) .boxes)
 size-is c = c .blocks-for .ensures .0 ∙ ap (λ (h : Header). blocksFor (h .boxes)) (c .before .header-of .ensures)
 
-five : (c : tie.Else5) → let f = now (c .before .before .before .before .before .before .before .before .before .before .before .before .args .file) in blocks f ≡ blocksFor (at f 6)
+five : (c : tie.Else5) → let f = now (c .before .before .before .before .before .before .before .before .before .before .before .before .args .file) in blocks f ≡ blocksFor (headerOf f .boxes)
 five c = c .if5 .left ∙ size-is (c .before)
 
 broken-is : (c : tie.After-first-broken)
@@ -51,7 +50,7 @@ broken-is : (c : tie.After-first-broken)
     c .first-broken .result ≡ broken f
 broken-is c =
     let f = now (c .before .before .before .before .before .before .before .before .before .before .before .before .before .args .file) in
-    c .first-broken .ensures ∙ ap (λ (h : Header). firstFailing (placeRule f (h .inputs) (h .boxes)) (places f)) (c .before .before .before .header-of .ensures)
+    c .first-broken .ensures ∙ ap (λ (h : Header). firstFailing (placeRule f h) (places f)) (c .before .before .before .header-of .ensures)
 
 length-holds-requires : tie.Need-length-holds-requires
 length-holds-requires c κs = search needs

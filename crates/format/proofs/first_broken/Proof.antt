@@ -10,10 +10,10 @@ use Rattle.format.proofs.first_broken.Statement.{statement}
 use Rattle.format.proofs.first_broken.Tie as tie
 
 abbrev Inv-loop : tie.InvT-loop
-Inv-loop file k n places p₀ p = (p ≤ places) × (from (placeRule file k n) places p ≡ firstFailing (placeRule file k n) places)
+Inv-loop file header places p₀ p = (p ≤ places) × (from (placeRule file header) places p ≡ firstFailing (placeRule file header) places)
 
 abbrev μ-loop : tie.MeasureT-loop
-μ-loop file k n places p₀ p = places - p
+μ-loop file header places p₀ p = places - p
 
 loop-holds : tie.Need-loop-holds Inv-loop μ-loop
 loop-holds c = (search needs, search-start _ _)

@@ -4,8 +4,7 @@ use native.Mathlib.Omega.{arith}
 use borrow.Author.Tests.{lt-ltb, le-ltb}
 use denote.Ref.{now}
 use Rattle.boxes.specs.Bytes.{allZero}
-use Rattle.boxes.specs.Box.{wellFormed}
-use Rattle.format.specs.File.{placeRule}
+use Rattle.format.specs.File.{boxRule, placeRule}
 use Rattle.format.proofs.Places.{place-to}
 use borrow.Author.Needs.{needs}
 use Rattle.format.proofs.place_holds.Statement.{statement}
@@ -40,7 +39,7 @@ unfolding placeRule
 returns c =
     let a = c .before .before .before .before .before .before .args in
     let place = place-to (now (a .file)) _ (a .p) (c .before .before .before .before .place-start .ensures) in
-    rw (lt-ltb (a .p) (a .n) (omega arith)) (c .well-formed .ensures ∙ ap (wellFormed (a .k) (a .n)) place)
+    rw (lt-ltb (a .p) (a .header .boxes) (omega arith)) (c .well-formed .ensures ∙ ap (boxRule (a .header)) place)
 
 all-zero-requires : tie.Need-all-zero-requires
 all-zero-requires c κs = search needs
@@ -50,7 +49,7 @@ unfolding placeRule
 returns-2 c =
     let a = c .before .before .before .before .before .before .args in
     let place = place-to (now (a .file)) _ (a .p) (c .before .before .before .before .place-start .ensures) in
-    rw (le-ltb (a .p) (a .n) (omega arith)) (c .all-zero .ensures ∙ ap allZero place)
+    rw (le-ltb (a .p) (a .header .boxes) (omega arith)) (c .all-zero .ensures ∙ ap allZero place)
 
 pub place-holds-spec : {M : Type 1} → statement M
 place-holds-spec =

@@ -17,44 +17,38 @@ cast-i c = search needs
 cast-j : tie.Need-cast-j
 cast-j c = search needs
 
-mul-result : tie.Need-mul-result
-mul-result c = search needs
+mul-t36 : tie.Need-mul-t36
+mul-t36 c = search needs
 
-element-copy-out-result : tie.Need-element-copy-out-result
-element-copy-out-result c = search needs
+element-copy-out-t39 : tie.Need-element-copy-out-t39
+element-copy-out-t39 c = search needs
 
-mul-result-2 : tie.Need-mul-result-2
-mul-result-2 c = search needs
-
-element-copy-out-result-2 : tie.Need-element-copy-out-result-2
-element-copy-out-result-2 c = search needs
-
-result-requires : tie.Need-result-requires
-result-requires c κs = search needs
-
--- src/lib.rt:53:45
-mul-read-mark : tie.Need-mul-read-mark
-mul-read-mark c = search needs
-
-element-copy-out-read-mark : tie.Need-element-copy-out-read-mark
-element-copy-out-read-mark c = search needs
-
--- src/lib.rt:53:55
-mul-read-mark-2 : tie.Need-mul-read-mark-2
-mul-read-mark-2 c = search needs
-
-element-copy-out-read-mark-2 : tie.Need-element-copy-out-read-mark-2
-element-copy-out-read-mark-2 c = search needs
-
-read-mark-requires : tie.Need-read-mark-requires
-read-mark-requires c κs = search needs
-
--- src/lib.rt:54:49
 mul-target-mark : tie.Need-mul-target-mark
 mul-target-mark c = search needs
 
 element-copy-out-target-mark : tie.Need-element-copy-out-target-mark
 element-copy-out-target-mark c = search needs
+
+mul-t36-2 : tie.Need-mul-t36-2
+mul-t36-2 c = search needs
+
+element-copy-out-t39-2 : tie.Need-element-copy-out-t39-2
+element-copy-out-t39-2 c = search needs
+
+mul-target-mark-2 : tie.Need-mul-target-mark-2
+mul-target-mark-2 c = search needs
+
+element-copy-out-target-mark-2 : tie.Need-element-copy-out-target-mark-2
+element-copy-out-target-mark-2 c = search needs
+
+operate-requires : tie.Need-operate-requires
+operate-requires c κs = search needs
+
+mul-target-mark-3 : tie.Need-mul-target-mark-3
+mul-target-mark-3 c = search needs
+
+element-copy-out-target-mark-3 : tie.Need-element-copy-out-target-mark-3
+element-copy-out-target-mark-3 c = search needs
 
 target-mark-requires : tie.Need-target-mark-requires
 target-mark-requires c κs = search needs
@@ -68,14 +62,12 @@ cast-i-2 c = search needs
 cast-j-2 : tie.Need-cast-j-2
 cast-j-2 c = search needs
 
--- src/lib.rt:71:24
 mul-read : tie.Need-mul-read
 mul-read c = search needs
 
 element-copy-out-read : tie.Need-element-copy-out-read
 element-copy-out-read c = search needs
 
--- src/lib.rt:71:35
 mul-read-2 : tie.Need-mul-read-2
 mul-read-2 c = search needs
 
@@ -85,14 +77,13 @@ element-copy-out-read-2 c = search needs
 decision-notice-requires : tie.Need-decision-notice-requires
 decision-notice-requires c κs = search needs
 
--- src/lib.rt:74:36
 named-by-requires : tie.Need-named-by-requires
 named-by-requires c κs = search needs
 
 returns : tie.Need-returns
 returns c =
     let noticed = c .before .before in
-    notice-act _ _ _ _ _ _ _ _ _ _ _ (noticed .before .before .before .before .b2 .given .1) (noticed .decision-notice .ensures) _ (c .before .if1 .taken) (c .named-by .ensures)
+    notice-act _ _ _ _ _ _ _ _ _ _ _ _ (noticed .before .before .before .before .b2 .given .1) (noticed .decision-notice .ensures) _ (c .before .if1 .taken) (c .named-by .ensures)
 
 mul-compare : tie.Need-mul-compare
 mul-compare c = search needs
@@ -124,38 +115,35 @@ element-copy-out-halt-notice c = search needs
 halt-notice-requires : tie.Need-halt-notice-requires
 halt-notice-requires c κs = search needs
 
--- src/lib.rt:87:36
 named-by-requires-2 : tie.Need-named-by-requires-2
 named-by-requires-2 c κs = search needs
 
 returns-2 : tie.Need-returns-2
 returns-2 c =
     let noticed = c .before .before in
-    halt-notice-act _ _ _ _ _ _ (noticed .before .before .enum-told .given .1) (noticed .halt-notice .ensures) _ (c .before .if2 .taken) (c .named-by2 .ensures)
+    halt-notice-act _ _ _ _ _ _ _ (noticed .before .before .enum-told .given .1) (noticed .halt-notice .ensures) _ (c .before .if2 .taken) (c .named-by2 .ensures)
 
--- src/lib.rt:89:24
 element-copy-out-output : tie.Need-element-copy-out-output
 element-copy-out-output c = search needs
 
 returns-3 : tie.Need-returns-3
 returns-3 c =
-    let read = c .before .before in
-    let value = read .before .before .before in
-    assign-act _ _ _ _ _ _ _ _ _ _ _ _ _ _
-    (value .before .before .before .before .b .given .1) (value .result .ensures) (read .read-mark .ensures) (c .target-mark .ensures)
+    let given = c .before .before in
+    assign-act _ _ _ _ _ _ _ _ _ _ _ _ _ _ _
+    (given .before .before .before .before .before .before .b .given .1) (given .operate .ensures .0) (given .operate .ensures .1) (c .target-mark .ensures)
 
 returns-4 : tie.Need-returns-4
 returns-4 c =
     let compared = c .before .before in
     let tested = compared .before .before .before in
     let noticed = tested .before in
-    go-act _ _ _ _ _ _ _ _ _ _ _ (noticed .before .before .before .before .b2 .given .1) (noticed .decision-notice .ensures) _ _ _
+    go-act _ _ _ _ _ _ _ _ _ _ _ _ (noticed .before .before .before .before .b2 .given .1) (noticed .decision-notice .ensures) _ _ _
     (tested .if1 .left) (c .counter-mark .ensures) (compared .compare .ensures) (c .before .way .ensures)
 
 returns-5 : tie.Need-returns-5
 returns-5 c =
     let noticed = c .before .before in
-    halt-value-act _ _ _ _ _ _ (noticed .before .before .enum-told .given .1) (noticed .halt-notice .ensures) _ refl (c .before .if2 .left)
+    halt-value-act _ _ _ _ _ _ _ (noticed .before .before .enum-told .given .1) (noticed .halt-notice .ensures) _ refl (c .before .if2 .left)
 
 pub run-box-spec : {M : Type 1} → statement M
 run-box-spec =
@@ -165,18 +153,17 @@ run-box-spec =
     cast-t
     cast-i
     cast-j
-    mul-result
-    element-copy-out-result
-    mul-result-2
-    element-copy-out-result-2
-    result-requires
-    mul-read-mark
-    element-copy-out-read-mark
-    mul-read-mark-2
-    element-copy-out-read-mark-2
-    read-mark-requires
+    mul-t36
+    element-copy-out-t39
     mul-target-mark
     element-copy-out-target-mark
+    mul-t36-2
+    element-copy-out-t39-2
+    mul-target-mark-2
+    element-copy-out-target-mark-2
+    operate-requires
+    mul-target-mark-3
+    element-copy-out-target-mark-3
     target-mark-requires
     enum-known-b-2
     cast-i-2

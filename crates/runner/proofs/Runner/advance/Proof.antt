@@ -11,14 +11,14 @@ use Rattle.machine.specs.Run.{valued, notice, spent, going, goesOn, settle, ste
 use Rattle.machine.proofs.Runs.{run-none}
 use Rattle.runner.specs.declared.Runner.{Runner}
 use Rattle.runner.specs.declared.Remains.{Remains}
-use Rattle.runner.specs.State.{standingOf, runIn}
+use Rattle.runner.specs.State.{standingOf, runIn, flowIn}
 use Rattle.runner.proofs.Boxes.{seen, Stored, stored-more, acts, left, goes-spent, goes-further, turned, CameTo, came-over, no-ending, endsWith, advance-came}
 use Rattle.runner.proofs.Runner.advance.Statement.{statement}
 use Rattle.runner.proofs.Runner.advance.Tie as tie
 
 abbrev Inv-loop : tie.InvT-loop
-Inv-loop m self₀ limit mode hidden verdict todo₀ at₀ steps₀ end₀ value₀ named₀ self todo at steps end value named =
-    (run (self₀ .table) todo₀ (going (runIn self₀)) ≡ run (self₀ .table) todo (going (seen self at steps)))
+Inv-loop m self₀ edition limit mode hidden verdict todo₀ at₀ steps₀ end₀ value₀ named₀ self todo at steps end value named =
+    (run (flowIn self₀) todo₀ (going (runIn self₀)) ≡ run (flowIn self₀) todo (going (seen self at steps)))
     × (todo ≤ todo₀)
     × Stored self₀ self
     × (limit ≡ self₀ .limit)
@@ -28,14 +28,15 @@ Inv-loop m self₀ limit mode hidden verdict todo₀ at₀ steps₀ end₀ value
     × (value ≡ 0)
     × (named ≡ 0)
     × (limit < 2 ^ 16)
+    × (edition ≡ self₀ .header .edition)
 
 abbrev μ-loop : tie.MeasureT-loop
-μ-loop m self₀ limit mode hidden verdict todo₀ at₀ steps₀ end₀ value₀ named₀ self todo at steps end value named = todo
+μ-loop m self₀ edition limit mode hidden verdict todo₀ at₀ steps₀ end₀ value₀ named₀ self todo at steps end value named = todo
 
 -- Where the arms of a box that does not end the run meet: it goes on in what was stored.
 meets : (c : tie.At-match-came Inv-loop μ-loop) → let at-loop = c .before .before .before .before .before .before .before .before .before in
     let l = at-loop .loop in let r = at-loop .before .before .before .before .before .before .args .t1 in
-    (step (r .table) (seen (l .self) (l .at) (l .steps)) ≡ goesOn (seen (c .match .self) (c .match .at) (l .steps + 1))) × Stored r (c .match .self)
+    (step (flowIn r) (seen (l .self) (l .at) (l .steps)) ≡ goesOn (seen (c .match .self) (c .match .at) (l .steps + 1))) × Stored r (c .match .self)
 unfolding settle
 meets c =
     let at-loop = c .before .before .before .before .before .before .before .before .before in
@@ -44,21 +45,21 @@ meets c =
     let stored = l .inv .2 in
     let box = c .before .before .before .before .before .box-at in
     let done = c .before .run-box in
-    let does = acts (l .self) r _ (l .at) (l .steps) (box .result) (done .result) stored (l .inv .4) (box .ensures) (done .ensures) in
+    let does = acts (l .self) r _ _ (l .at) (l .steps) (box .result) (done .result) stored (l .inv .10) (l .inv .4) (box .ensures) (done .ensures) in
     ⊎-elim
     (λ w. (
-      left _ (l .self) (c .match .self) (l .at) (l .steps) _ _ _ _ (c .match .at) (w .3) (w .4) (does _ (w .1 .given .1)),
+      left (flowIn r) (l .self) (c .match .self) (l .at) (l .steps) _ _ _ _ (c .match .at) (w .3) (w .4) (does _ (w .1 .given .1)),
       stored-more r (l .self) _ _ _ _ stored (w .3),
     ))
     (λ w. (
-      left _ (l .self) (c .match .self) (l .at) (l .steps) _ _ _ _ (c .match .at) (w .3) (w .4) (does _ (w .1 .given .1)),
+      left (flowIn r) (l .self) (c .match .self) (l .at) (l .steps) _ _ _ _ (c .match .at) (w .3) (w .4) (does _ (w .1 .given .1)),
       stored-more r (l .self) _ _ _ _ stored (w .3),
     ))
     (c .match .came)
 
 -- Where the loop is left: no box is to run, a halt gives a value, a decision or a halt a notice, or the limit is reached.
 over : (c : tie.Left-loop Inv-loop μ-loop) → let q = c .loop-test in let a = c .before .before .before .before .before .before .before .args in
-    CameTo (a .t1 .table) (c .before .before .amount .result) (runIn (a .t1)) (q .self) (q .at) (q .end) (q .value) (q .named) (q .steps) × Stored (a .t1) (q .self)
+    CameTo (flowIn (a .t1)) (c .before .before .amount .result) (runIn (a .t1)) (q .self) (q .at) (q .end) (q .value) (q .named) (q .steps) × Stored (a .t1) (q .self)
 unfolding settle
 over c =
     let l = c .before .loop in
@@ -73,14 +74,14 @@ over c =
     (⊎-elim
     (λ w. (
       came-over _ _ (l .todo) _ _ (l .inv .0) (w .0 .taken) (valued _) (q .self) (q .at) (q .end) (q .value) (q .named) (q .steps)
-          (acts (l .self) r _ (l .at) (l .steps) (w .3 .result) (w .7 .result) stored (l .inv .4) (w .3 .ensures) (w .7 .ensures) _ (w .9 .given .1))
+          (acts (l .self) r _ _ (l .at) (l .steps) (w .3 .result) (w .7 .result) stored (l .inv .10) (l .inv .4) (w .3 .ensures) (w .7 .ensures) _ (w .9 .given .1))
           (w .15) (w .16) (w .17 ∙ l .inv .8) (w .14),
       rw (w .11) stored,
     ))
     (⊎-elim
     (λ w. (
       came-over _ _ (l .todo) _ _ (l .inv .0) (w .0 .taken) (notice _) (q .self) (q .at) (q .end) (q .value) (q .named) (q .steps)
-          (acts (l .self) r _ (l .at) (l .steps) (w .3 .result) (w .7 .result) stored (l .inv .4) (w .3 .ensures) (w .7 .ensures) _ (w .9 .given .1))
+          (acts (l .self) r _ _ (l .at) (l .steps) (w .3 .result) (w .7 .result) stored (l .inv .10) (l .inv .4) (w .3 .ensures) (w .7 .ensures) _ (w .9 .given .1))
           (w .15) (w .16 ∙ l .inv .7) (w .17) (w .14),
       rw (w .11) stored,
     ))
@@ -131,6 +132,7 @@ loop-holds c = (
   refl,
   refl,
   search needs,
+  refl,
 )
 
 sub-todo : tie.Need-sub-todo Inv-loop μ-loop
@@ -191,6 +193,7 @@ loop-again c =
       l .inv .7,
       l .inv .8,
       l .inv .9,
+      l .inv .10,
     )
 
 cast-self : tie.Need-cast-self Inv-loop μ-loop

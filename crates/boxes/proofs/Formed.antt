@@ -1,0 +1,26 @@
+-- Ten bytes obey the rules of a box where they obey those of their kind: the rules of the other kinds ask for another byte 0. Assumes nothing.
+use Prim.Native.Nat.{ℕ}
+use mathlib.Core.Path.{_≡_, refl}
+use mathlib.Core.List.{List}
+use mathlib.Core.Bool.{Bool, true, false, _||_}
+use lib.ListN.{length}
+use borrow.Author.Tests.{ne-eqb}
+use Rattle.boxes.specs.Bytes.{at}
+use Rattle.boxes.specs.Box.{assignmentRule, decisionRule, haltRule, wellFormed}
+
+or-none : (a : Bool) → (a || false) ≡ a
+or-none true = refl
+or-none false = refl
+
+module _ (edition k n : ℕ) (b : List ℕ) (ten : length b ≡ 10) where
+  pub formed-assignment : at b 0 ≡ 1 → assignmentRule edition k n b ≡ wellFormed edition k n b
+  unfolding wellFormed decisionRule haltRule
+  formed-assignment e = rw (ten, e, or-none, or-none)
+
+  pub formed-decision : at b 0 ≡ 2 → decisionRule k n b ≡ wellFormed edition k n b
+  unfolding wellFormed assignmentRule haltRule
+  formed-decision e = rw (ten, e, or-none)
+
+  pub formed-halt : (at b 0 ≡ 1 → ⊥) → (at b 0 ≡ 2 → ⊥) → haltRule b ≡ wellFormed edition k n b
+  unfolding wellFormed assignmentRule decisionRule
+  formed-halt one two = rw (ten, ne-eqb _ _ one, ne-eqb _ _ two)

@@ -1,0 +1,54 @@
+-- The editions differ where `readsRight`, `sum` and `difference` look at the edition, and each proof asks them. Assumes nothing.
+use Prim.Native.Nat.{ℕ, _+_, _-_, min, max}
+use mathlib.Core.Path.{_≡_, refl}
+use mathlib.Core.List.{List, [], _∷_}
+use mathlib.Core.Bool.{Bool, true, false, cond}
+use native.Mathlib.Omega.{arith}
+use lib.Dec.{eqb, ltb}
+use borrow.Author.Tests.{eqb-true, ltb-true, ltb-false, ne-eqb}
+use Rattle.boxes.specs.Bytes.{at}
+use Rattle.boxes.specs.Box.{readsRight, assignmentRule, wellFormed}
+use Rattle.operations.specs.Operation.{readBy, sum, difference, valueOfLeft, valueOfBoth, valueOf}
+use Rattle.claims.specs.Editions.{OthersAlike, BoxesAlike, CountersDontWrap}
+
+-- Only operation 11 asks the edition what it reads.
+right-alike : (op : ℕ) → (op ≡ 11 → ⊥) → readsRight 2 op ≡ readsRight 1 op
+right-alike op n = rw (ne-eqb op 11 n)
+
+values-alike : (op : ℕ) → (op ≡ 2 → ⊥) → (op ≡ 3 → ⊥) → (constant : ℕ) (read : List ℕ) → valueOf 2 op constant read ≡ valueOf 1 op constant read
+unfolding valueOf valueOfBoth
+values-alike op two three constant [] = refl
+values-alike op two three constant (a ∷ []) = refl
+values-alike op two three constant (a ∷ b ∷ rest) = rw (ne-eqb op 2 two, ne-eqb op 3 three)
+
+pub others-alike : OthersAlike
+unfolding readBy
+others-alike op two three eleven = (λ left right. rw (right-alike op eleven), values-alike op two three)
+
+pub boxes-alike : BoxesAlike
+unfolding wellFormed assignmentRule
+boxes-alike k n b other = by (eqb (at b 0) 1) refl
+  where
+    by : (kind : Bool) → eqb (at b 0) 1 ≡ kind → wellFormed 2 k n b ≡ wellFormed 1 k n b
+    by true e = rw (right-alike (at b 2) (λ q. other (eqb-true (at b 0) 1 e, q)))
+    by false e = rw e
+
+sum-is : (left right : ℕ) → sum 2 left right ≡ min (left + right) 4294967295
+unfolding sum
+sum-is left right = by (ltb 4294967295 (left + right)) refl
+  where
+    by : (b : Bool) → ltb 4294967295 (left + right) ≡ b → cond b 4294967295 (left + right) ≡ min (left + right) 4294967295
+    by true e = omega (arith, ltb-true 4294967295 (left + right) e)
+    by false e = omega (arith, ltb-false 4294967295 (left + right) e)
+
+difference-is : (left right : ℕ) → difference 2 left right + right ≡ max left right
+unfolding difference
+difference-is left right = by (ltb left right) refl
+  where
+    by : (b : Bool) → ltb left right ≡ b → cond b 0 (left - right) + right ≡ max left right
+    by true e = omega (arith, ltb-true left right e)
+    by false e = omega (arith, ltb-false left right e)
+
+pub counters-dont-wrap : CountersDontWrap
+unfolding readBy valueOf valueOfLeft valueOfBoth
+counters-dont-wrap left right = record { sum = sum-is left right; difference = difference-is left right; zeros = refl }

@@ -1,0 +1,77 @@
+-- A case of the tables, what the definitions give for it, and what they are to give.
+use Prim.Native.Nat.{ℕ}
+use mathlib.Core.Path.{_≡_}
+use mathlib.Core.List.{List, [], _∷_, map}
+use mathlib.Core.Bool.{cond}
+use lib.Dec.{eqb}
+use lib.ListN.{length, replicate}
+use Rattle.format.specs.Block.{checksum}
+use Rattle.format.specs.File.{headerOf, checkFile}
+use Rattle.format.specs.declared.Checked.{Checked}
+use Rattle.operations.specs.Operation.{readBy, valueOf}
+use Rattle.machine.specs.Run.{Ending}
+use Rattle.begin.specs.Begin.{effective}
+use Rattle.calls.specs.Calls.{load, begin, advance, answer, writeBack}
+use Rattle.runner.specs.State.{newRunner}
+use Rattle.runner.specs.Outcomes.{Reply, done, chart, ended, ending, wrote, Told}
+use Rattle.claims.specs.Lists.{tells}
+
+-- A file and the answer of load's input checks; a file that is loaded and written back to itself; a chart's file, what begin is given, and the ending with its
+-- steps; an operation of an edition, its operands and its result; or a block and its check.
+pub data Case : Type 0 where
+  answers : (file : List ℕ) → Checked → Case
+  returns : (file : List ℕ) → Case
+  runs : (file : List ℕ) (mode : ℕ) (inputs : List ℕ) (allowed limit : ℕ) → Ending → (steps : ℕ) → Case
+  operates : (edition op left right result : ℕ) → Case
+  checks : (block : List ℕ) (check : ℕ) → Case
+
+-- What a case gives: the answer of the checks, what calls tell, or a number.
+pub data Given : Type 0 where
+  checked : Checked → Given
+  told : List Told → Given
+  number : ℕ → Given
+
+-- What the definitions give: what the checks answer; what a new runner tells for load and write back into as many bytes, all 0; for load, begin, advance to the
+-- limit and answer; the operation's result; the block's check.
+unfoldable pub gives : Case → Given
+gives (answers file so) = checked (checkFile file)
+gives (returns file) = told (tells (load file ∷ writeBack (replicate (length file) 0) ∷ []) newRunner)
+gives (runs file mode inputs allowed limit e steps) =
+    told (tells (load file ∷ begin mode inputs allowed limit ∷ advance (effective limit) ∷ answer ∷ []) newRunner)
+gives (operates edition op left right result) = number (valueOf edition op 0 (readBy edition op left right))
+gives (checks block check) = number (checksum block)
+
+-- Replies where no byte is lent to be written.
+abbrev pub replied : List Reply → List Told
+replied rs = map (λ (x : Reply). record { reply = x; buffer = [] }) rs
+
+-- "mode (0 bare, 1 surveillance, 2 high-water)".
+abbrev pub bare : ℕ
+bare = 0
+
+abbrev pub surveillance : ℕ
+surveillance = 1
+
+abbrev pub highWater : ℕ
+highWater = 2
+
+-- The steps that an advance is to tell with "ended". 02, b: "Advance in this mode tells only "ended" with 0 steps", high-water.
+abbrev stepsAtTheEnd : (mode steps : ℕ) → ℕ
+stepsAtTheEnd mode steps = cond (eqb mode highWater) 0 steps
+
+-- What load tells of a file that it accepts.
+abbrev loaded : List ℕ → Reply
+loaded file = chart (headerOf file .inputs) (headerOf file .boxes)
+
+-- What they are to give.
+unfoldable pub expected : Case → Given
+expected (answers file so) = checked so
+expected (returns file) = told (record { reply = loaded file; buffer = [] } ∷ record { reply = wrote (length file); buffer = file } ∷ [])
+expected (runs file mode inputs allowed limit e steps) =
+    told (replied (loaded file ∷ done ∷ ended (stepsAtTheEnd mode steps) ∷ ending e steps ∷ []))
+expected (operates edition op left right result) = number result
+expected (checks block check) = number check
+
+-- A table of so many cases, each of which gives what is expected.
+abbrev pub Table : ℕ → List Case → Type 0
+Table rows cases = (length cases ≡ rows) × (map gives cases ≡ map expected cases)
