@@ -8,18 +8,18 @@ use borrow.Author.Tests.{ne-eqb}
 use Rattle.boxes.specs.Bytes.{at}
 use Rattle.boxes.specs.Box.{assignmentRule, decisionRule, haltRule, wellFormed}
 
-or-none : (a : Bool) → (a || false) ≡ a
-or-none true = refl
-or-none false = refl
+or-false : (a : Bool) → (a || false) ≡ a
+or-false true = refl
+or-false false = refl
 
 module _ (edition k n : ℕ) (b : List ℕ) (ten : length b ≡ 10) where
   pub formed-assignment : at b 0 ≡ 1 → assignmentRule edition k n b ≡ wellFormed edition k n b
   unfolding wellFormed decisionRule haltRule
-  formed-assignment e = rw (ten, e, or-none, or-none)
+  formed-assignment e = rw (ten, e, or-false, or-false)
 
   pub formed-decision : at b 0 ≡ 2 → decisionRule k n b ≡ wellFormed edition k n b
   unfolding wellFormed assignmentRule haltRule
-  formed-decision e = rw (ten, e, or-none)
+  formed-decision e = rw (ten, e, or-false)
 
   pub formed-halt : (at b 0 ≡ 1 → ⊥) → (at b 0 ≡ 2 → ⊥) → haltRule b ≡ wellFormed edition k n b
   unfolding wellFormed assignmentRule decisionRule

@@ -15,15 +15,15 @@ use Rattle.claims.specs.Editions.{OthersAlike, BoxesAlike, CountersDontW
 right-alike : (op : ℕ) → (op ≡ 11 → ⊥) → readsRight 2 op ≡ readsRight 1 op
 right-alike op n = rw (ne-eqb op 11 n)
 
-values-alike : (op : ℕ) → (op ≡ 2 → ⊥) → (op ≡ 3 → ⊥) → (constant : ℕ) (read : List ℕ) → valueOf 2 op constant read ≡ valueOf 1 op constant read
+values-alike : (op constant : ℕ) (read : List ℕ) → (op ≡ 2 → ⊥) → (op ≡ 3 → ⊥) → valueOf 2 op constant read ≡ valueOf 1 op constant read
 unfolding valueOf valueOfBoth
-values-alike op two three constant [] = refl
-values-alike op two three constant (a ∷ []) = refl
-values-alike op two three constant (a ∷ b ∷ rest) = rw (ne-eqb op 2 two, ne-eqb op 3 three)
+values-alike op constant [] two three = refl
+values-alike op constant (a ∷ []) two three = refl
+values-alike op constant (a ∷ b ∷ rest) two three = rw (ne-eqb op 2 two, ne-eqb op 3 three)
 
 pub others-alike : OthersAlike
 unfolding readBy
-others-alike op two three eleven = (λ left right. rw (right-alike op eleven), values-alike op two three)
+others-alike = (λ op left right eleven. rw (right-alike op eleven), values-alike)
 
 pub boxes-alike : BoxesAlike
 unfolding wellFormed assignmentRule

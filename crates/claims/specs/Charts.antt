@@ -17,7 +17,7 @@ use Rattle.runner.specs.State.{isHeld, isRunning, isEnded, runIn, dropped}
 use Rattle.runner.specs.Outcomes.{chart, wrote, Effect, runs, keeps, begins, drops, replaces, effect, call}
 use Rattle.claims.specs.Lists.{Reached, Accepted, final, Along}
 
--- "An operand that is read is an input below k or a variable 16 to 31.": so is every variable that a box reads where it is run.
+-- "An operand that is read is an input below k or a variable 16 to 31", and so is every variable that a box reads when it is run.
 abbrev pub AllReadable : (k : ℕ) → List ℕ → Type 0
 AllReadable k [] = Unit {0}
 AllReadable k (v ∷ vs) = (readable k v ≡ true) × AllReadable k vs
@@ -27,7 +27,7 @@ ReadsOnly k (assigns target reads gives next) = AllReadable k reads
 ReadsOnly k (decides reads holds next other) = AllReadable k reads
 ReadsOnly k halts = Unit {0}
 
--- A chart that obeys the rules: its numbers are in range, its boxes well formed, and its table 0 past them.
+-- A chart that obeys the rules: its numbers are in range, its boxes are well formed and read only what the rules allow, and its table is 0 past them.
 pub record Obeys (h : Header) (table : List ℕ) : Type 0 where
   pub long : length table ≡ 2040
   pub header : HeaderInRange h

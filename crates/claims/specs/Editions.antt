@@ -7,12 +7,11 @@ use Rattle.boxes.specs.Bytes.{at}
 use Rattle.boxes.specs.Box.{wellFormed}
 use Rattle.operations.specs.Operation.{readBy, valueOf}
 
--- An operation other than 2, 3 and 11 reads the same in both editions, and gives the same of it.
+-- In edition 2 only operation 11 reads otherwise than in edition 1, and only 2 and 3 give otherwise of what they have read.
 abbrev pub OthersAlike : Type 0
 OthersAlike =
-    (op : ℕ) → op ≢ 2 → op ≢ 3 → op ≢ 11
-    → ((left right : ℕ) → readBy 2 op left right ≡ readBy 1 op left right)
-    × ((constant : ℕ) (read : List ℕ) → valueOf 2 op constant read ≡ valueOf 1 op constant read)
+    ((op left right : ℕ) → op ≢ 11 → readBy 2 op left right ≡ readBy 1 op left right)
+    × ((op constant : ℕ) (read : List ℕ) → op ≢ 2 → op ≢ 3 → valueOf 2 op constant read ≡ valueOf 1 op constant read)
 
 -- A box that is no assignment of operation 11 obeys the box rules of the one edition exactly where it obeys those of the other.
 abbrev pub BoxesAlike : Type 0

@@ -35,6 +35,6 @@ meaning edition (Assign target op left right next constant) = assigns target (re
 meaning edition (Decide comparison left right next other) = decides (left ∷ right ∷ []) (compares comparison) next other
 meaning edition Halt = halts
 
--- The flow of a chart: what the box of each number does. A run goes by it, and by nothing else of the chart.
+-- The flow of a chart: what the box of each number does. A step goes by it, and by nothing else of the chart.
 abbrev pub flow : (edition : ℕ) (table : List ℕ) → ℕ → Box
 flow edition table p = meaning edition (boxAt table p)

@@ -30,6 +30,7 @@ editionCases =
     ∷ operates 1 11 0 40 32
     ∷ operates 2 11 8 0 0
     -- its mark: edition 2 joins both sets, edition 1 has the left one
+    ∷ runs zerosOne surveillance (8 ∷ 2 ∷ []) 0 0 (notice 1) 2
     ∷ runs zerosTwo surveillance (8 ∷ 2 ∷ []) 0 0 (notice 3) 2
     ∷ runs zerosTwo surveillance (8 ∷ 2 ∷ []) 1 0 (notice 2) 2
     ∷ runs zerosOne surveillance (8 ∷ 2 ∷ []) 1 0 (valued 3) 2
@@ -38,15 +39,16 @@ editionCases =
     -- the other operations are alike: a product wraps in both
     ∷ operates 1 4 65536 65536 0
     ∷ operates 2 4 65536 65536 0
-    -- the right operand of operation 11: variable 16, and an input at k, in edition 2; in edition 1 any but 0 is 6
+    -- the right operand of operation 11: variable 16, and inputs at k and above it, in edition 2; in edition 1 any but 0 is 6
     ∷ answers (operating 2 11 16 75 215) (accepted 2 2 2 0)
     ∷ answers (operating 2 11 2 75 145) (refused 6 0)
+    ∷ answers (operating 2 11 15 75 210) (refused 6 0)
     ∷ answers (operating 1 11 1 70 140) (refused 6 0)
     ∷ answers (operating 1 11 16 70 215) (refused 6 0)
     -- and without inputs 0 is none that can be read
     ∷ answers (block (front 2 0 2 0) 63 3 ++ block (assign 31 11 16 0 1 0 ++ halt) 199 0) (refused 6 0)
     ∷ answers (block (front 1 0 2 0) 58 3 ++ block (assign 31 11 16 0 1 0 ++ halt) 199 0) (accepted 1 0 2 0)
-    -- 3: editions 0, 3 and 255; after 2, and before 4
+    -- 3: editions 0, 3 and 255; after 2, and before 4, to which edition 2 comes
     ∷ answers (withHead (front 0 1 2 0) 59 3) (refused 3 0)
     ∷ answers (withHead (front 3 1 2 0) 74 3) (refused 3 0)
     ∷ answers (withHead (front 255 1 2 0) 54 8) (refused 3 0)
@@ -60,4 +62,4 @@ editionCases =
     ∷ []
 
 abbrev pub EditionCases : Type 0
-EditionCases = Table 39 editionCases
+EditionCases = Table 41 editionCases

@@ -30,7 +30,7 @@ struct Marked {
     mark: u16,
 }
 
-// What an operation gives of its constant and its left and right operands; what it does not read does not matter.
+// What an operation gives of its constant and its left and right operands, and the union of the marks that it reads; what it does not read does not matter.
 fn operate(edition: u8, op: u8, constant: u32, left: Marked, right: Marked) -> Marked
     ensures { λ r.
         ⌜ (r .value ≡ valueOf edition op constant (readBy edition op (left .value) (right .value)))
@@ -62,6 +62,7 @@ fn operate(edition: u8, op: u8, constant: u32, left: Marked, right: Marked) -> M
     }
 }
 
+// A value with a mark, for the arms of `operate`.
 fn with_mark(value: u32, mark: u16) -> Marked
     ensures { λ r. ⌜ (r .value ≡ value) × (r .mark ≡ mark) ⌝ }
 {

@@ -1,4 +1,4 @@
-// The operations that read two values, and the three comparisons. The others are the kit's: one bits, leading and trailing zeros.
+// Operations 2 to 8, and the three comparisons. `machine::operate` has the others, over the kit's one bits, leading and trailing zeros.
 ghost use mathlib.Core.Path.{_≡_};
 ghost use Prim.Native.Nat.{_*_, _%_, _^_, min, max};
 ghost use mathlib.Core.List.{[], _∷_};

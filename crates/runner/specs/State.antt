@@ -12,7 +12,7 @@ use Rattle.machine.specs.Run.{Run, Ending, valued, notice, spent, Progress, goi
 use Rattle.calls.specs.Calls.{Standing}
 use Rattle.runner.specs.declared.Runner.{Runner}
 
--- The chart in a runner. It holds one where the header's numbers are those of a file; a new runner's are all 0.
+-- The chart in a runner. It holds one where the header's numbers of inputs and boxes and its first box are those of a file; a new runner's are 0.
 abbrev pub chartIn : Runner → Chart
 chartIn r = record { header = r .header; table = r .table }
 

@@ -67,7 +67,7 @@ fn operation(state: &mut u64) -> u8 {
     low(below(state, 12))
 }
 
-// Whether an operation reads its right operand in an edition.
+// Whether an operation other than 0 reads its right operand in an edition.
 fn reads_right(edition: u32, op: u8) -> bool {
     match op {
         1 | 9 | 10 => false,

@@ -9,19 +9,15 @@ use Rattle.runner.proofs.Runner.write_back.Tie as tie
 check-write-back-requires : tie.Need-check-write-back-requires
 check-write-back-requires c κs = search needs
 
--- src/lib.rt:292:41
 enum-told : tie.Need-enum-told
 enum-told c = search needs
 
--- src/lib.rt:292:17
 put-file-requires : tie.Need-put-file-requires
 put-file-requires c κs = search needs
 
--- src/lib.rt:293:33
 file-length-requires : tie.Need-file-length-requires
 file-length-requires c κs = search needs
 
--- src/lib.rt:295:30
 enum-known-verdict : tie.Need-enum-known-verdict
 enum-known-verdict c = search needs
 
@@ -38,7 +34,6 @@ returns c =
     (sym (told .enum-told .given .1) ∙ rules .check-write-back .ensures _ (standingOf r) refl refl)
     (c .file-length .ensures .0) (put .put-file .ensures)
 
--- src/lib.rt:285:5
 returns-2 : tie.Need-returns-2
 returns-2 c =
     let rules = c .before .before .before in
