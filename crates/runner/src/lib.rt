@@ -16,14 +16,12 @@ ghost use Rattle.runner.specs.Outcomes.{outcome, turnedAway, call};
 ghost use Rattle.runner.specs.Outcomes as outcomes;
 ghost use Rattle.runner.specs.Replies.{loadReply, verdictReply, advanceReply, answerReply, writtenReply};
 
-// The chart that is held: its header and the box table. Of a run under way: the variables, their marks, the counter mark, the mode, the box at
-// hand, the limit and the steps so far. `state` is 0 without a run, 1 with one under way, and 2, 3 or 4 where one has ended with a value, a
-// notice or spent; it `took` so many steps, its value is `value`, and its notice names the inputs of the set `named`.
+// The chart that is held: its header and the box table. Of a run under way: the counter mark, the mode, the box at hand, the limit and the steps so far, and last the
+// variables and their marks. `state` is 0 without a run, 1 with one under way, and 2, 3 or 4 where one has ended with a value, a notice or spent; it `took` so many steps, its
+// value is `value`, and its notice names the inputs of the set `named`. What a run stores to is not beside the table, so that the table is not copied with it.
 pub struct Runner {
     header: Header,
     table: [u8; 2040],
-    vars: [u32; 32],
-    marks: [u16; 32],
     counter: u16,
     mode: u8,
     at: u8,
@@ -33,6 +31,8 @@ pub struct Runner {
     took: u32,
     value: u32,
     named: u16,
+    vars: [u32; 32],
+    marks: [u16; 32],
 }
 
 // What load tells.
@@ -189,7 +189,6 @@ impl Runner {
     pub fn advance(mut self, m: u32) -> Advanced
         ensures { λ r. ⌜ outcome (advanceReply (r .told)) [] (r .runner) ≡ call (advance m) self ⌝ }
     {
-        let edition = self.header.edition;
         let limit = self.limit as u32;
         let mode = marks::mode_of(self.mode);
         let hidden = marks::hides(mode);
@@ -204,6 +203,7 @@ impl Runner {
             todo = todo - 1;
             steps = steps + 1;
             let b = decode::box_at(&self.table, at);
+            let edition = self.header.edition;
             let done = machine::run_box(edition, mode, b, &self.vars, &self.marks, self.counter);
             match done {
                 Act::Store {

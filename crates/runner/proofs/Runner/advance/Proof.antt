@@ -17,7 +17,7 @@ use Rattle.runner.proofs.Runner.advance.Statement.{statement}
 use Rattle.runner.proofs.Runner.advance.Tie as tie
 
 abbrev Inv-loop : tie.InvT-loop
-Inv-loop m self₀ edition limit mode hidden verdict todo₀ at₀ steps₀ end₀ value₀ named₀ self todo at steps end value named =
+Inv-loop m self₀ limit mode hidden verdict todo₀ at₀ steps₀ end₀ value₀ named₀ self todo at steps end value named =
     (run (flowIn self₀) todo₀ (going (runIn self₀)) ≡ run (flowIn self₀) todo (going (seen self at steps)))
     × (todo ≤ todo₀)
     × Stored self₀ self
@@ -28,10 +28,9 @@ Inv-loop m self₀ edition limit mode hidden verdict todo₀ at₀ steps₀ end�
     × (value ≡ 0)
     × (named ≡ 0)
     × (limit < 2 ^ 16)
-    × (edition ≡ self₀ .header .edition)
 
 abbrev μ-loop : tie.MeasureT-loop
-μ-loop m self₀ edition limit mode hidden verdict todo₀ at₀ steps₀ end₀ value₀ named₀ self todo at steps end value named = todo
+μ-loop m self₀ limit mode hidden verdict todo₀ at₀ steps₀ end₀ value₀ named₀ self todo at steps end value named = todo
 
 -- Where the arms of a box that does not end the run meet: it goes on in what was stored.
 meets : (c : tie.At-match-came Inv-loop μ-loop) → let at-loop = c .before .before .before .before .before .before .before .before .before in
@@ -45,7 +44,7 @@ meets c =
     let stored = l .inv .2 in
     let box = c .before .before .before .before .before .box-at in
     let done = c .before .run-box in
-    let does = acts (l .self) r _ _ (l .at) (l .steps) (box .result) (done .result) stored (l .inv .10) (l .inv .4) (box .ensures) (done .ensures) in
+    let does = acts (l .self) r _ _ (l .at) (l .steps) (box .result) (done .result) stored (ap (λ (x : Runner). x .header .edition) stored) (l .inv .4) (box .ensures) (done .ensures) in
     ⊎-elim
     (λ w. (
       left (flowIn r) (l .self) (c .match .self) (l .at) (l .steps) _ _ _ _ (c .match .at) (w .3) (w .4) (does _ (w .1 .given .1)),
@@ -74,14 +73,14 @@ over c =
     (⊎-elim
     (λ w. (
       came-over _ _ (l .todo) _ _ (l .inv .0) (w .0 .taken) (valued _) (q .self) (q .at) (q .end) (q .value) (q .named) (q .steps)
-          (acts (l .self) r _ _ (l .at) (l .steps) (w .3 .result) (w .7 .result) stored (l .inv .10) (l .inv .4) (w .3 .ensures) (w .7 .ensures) _ (w .9 .given .1))
+          (acts (l .self) r _ _ (l .at) (l .steps) (w .3 .result) (w .7 .result) stored (ap (λ (x : Runner). x .header .edition) stored) (l .inv .4) (w .3 .ensures) (w .7 .ensures) _ (w .9 .given .1))
           (w .15) (w .16) (w .17 ∙ l .inv .8) (w .14),
       rw (w .11) stored,
     ))
     (⊎-elim
     (λ w. (
       came-over _ _ (l .todo) _ _ (l .inv .0) (w .0 .taken) (notice _) (q .self) (q .at) (q .end) (q .value) (q .named) (q .steps)
-          (acts (l .self) r _ _ (l .at) (l .steps) (w .3 .result) (w .7 .result) stored (l .inv .10) (l .inv .4) (w .3 .ensures) (w .7 .ensures) _ (w .9 .given .1))
+          (acts (l .self) r _ _ (l .at) (l .steps) (w .3 .result) (w .7 .result) stored (ap (λ (x : Runner). x .header .edition) stored) (l .inv .4) (w .3 .ensures) (w .7 .ensures) _ (w .9 .given .1))
           (w .15) (w .16 ∙ l .inv .7) (w .17) (w .14),
       rw (w .11) stored,
     ))
@@ -132,7 +131,6 @@ loop-holds c = (
   refl,
   refl,
   search needs,
-  refl,
 )
 
 sub-todo : tie.Need-sub-todo Inv-loop μ-loop
@@ -193,7 +191,6 @@ loop-again c =
       l .inv .7,
       l .inv .8,
       l .inv .9,
-      l .inv .10,
     )
 
 cast-self : tie.Need-cast-self Inv-loop μ-loop
