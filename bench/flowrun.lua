@@ -47,12 +47,14 @@ end
 local function load_chart(file)
   local size = #file
   if size ~= 1024 and size ~= 1536 and size ~= 2048 and size ~= 2560 then return nil, 1, 0 end
+  local edition, k, n, first = file:byte(5, 8)
+  -- In edition 2 the check of block j adds 511 times j.
+  local added = edition == 2 and 511 or 0
   for j = 0, size / 512 - 1 do
-    local sum = 0
+    local sum = added * j
     for i = 1, 510 do sum = sum + i * file:byte(512 * j + i) end
     if sum % 65536 ~= file:byte(512 * j + 511) + 256 * file:byte(512 * j + 512) then return nil, 2, j end
   end
-  local edition, k, n, first = file:byte(5, 8)
   if file:sub(1, 4) ~= "FLOW" or (edition ~= 1 and edition ~= 2) then return nil, 3, 0 end
   if k > 16 or n < 1 or n > 204 or first >= n or file:sub(9, 510):find("[^%z]") then return nil, 4, 0 end
   if size ~= 512 * (1 + floor((n + 50) / 51)) then return nil, 5, 0 end

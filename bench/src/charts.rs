@@ -19,11 +19,19 @@ pub fn decide(comparison: u8, left: u8, right: u8, next: u8, other: u8) -> Box10
 
 pub const HALT: Box10 = [3, 0, 0, 0, 0, 0, 0, 0, 0, 0];
 
-/// Writes the check of each block.
-pub fn seal(file: &mut [u8]) {
-    for block in file.chunks_exact_mut(512) {
-        let check = block[..510].iter().zip(1u32..).fold(0u32, |sum, (b, i)| sum.wrapping_add(i * u32::from(*b)));
+/// Writes the check of each block by an edition's rule: in edition 2 the check of block j adds 511 times j.
+fn seal_by(edition: u8, file: &mut [u8]) {
+    let added = if edition == 2 { 511 } else { 0 };
+    for (j, block) in (0u32..).zip(file.chunks_exact_mut(512)) {
+        let check = block[..510].iter().zip(1u32..).fold(added * j, |sum, (b, i)| sum.wrapping_add(i * u32::from(*b)));
         block[510..].copy_from_slice(&(check as u16).to_le_bytes());
+    }
+}
+
+/// Writes the check of each block by the rule of the edition in byte 4.
+pub fn seal(file: &mut [u8]) {
+    if let Some(&edition) = file.get(4) {
+        seal_by(edition, file);
     }
 }
 
@@ -88,11 +96,11 @@ pub fn sixteen() -> Vec<u8> {
     file(1, 16, 0, &boxes)
 }
 
-/// A straight chart of edition 1 and so many boxes, the halt included.
-pub fn straight(n: usize) -> Vec<u8> {
+/// A straight chart of an edition and so many boxes, the halt included.
+pub fn straight(edition: u8, n: usize) -> Vec<u8> {
     let mut boxes: Vec<Box10> = (1..n).map(|p| assign(31, 2, 31, 0, p as u8)).collect();
     boxes.push(HALT);
-    file(1, 2, 0, &boxes)
+    file(edition, 2, 0, &boxes)
 }
 
 /// A variable 16 to 31, mostly one of four, so that what a box gives is read and answered.
@@ -140,8 +148,21 @@ pub fn random_chart(random: &mut Random) -> Vec<u8> {
     file(edition, k, random.below(u32::from(n)) as u8, &boxes)
 }
 
-/// Damage of one kind or another, the checks mended or not. One in four draws the edition anew, from 0 to 3, and mostly mends the checks with nothing else
-/// damaged.
+/// Exchanges two box blocks, their checks with them, where the file has two; whether it has.
+pub fn exchange(random: &mut Random, file: &mut [u8]) -> bool {
+    let last = file.len() as u32 / 512 - 1;
+    if last < 2 {
+        return false;
+    }
+    let i = 1 + random.below(last - 1);
+    let j = i + 1 + random.below(last - i);
+    let (front, back) = file.split_at_mut(512 * j as usize);
+    front[512 * i as usize..][..512].swap_with_slice(&mut back[..512]);
+    true
+}
+
+/// Damage of one kind or another, the checks mended or not, or the checks of the other edition's rule. One in four draws the edition anew, from 0 to 3,
+/// and mostly mends the checks with nothing else damaged.
 pub fn damage(random: &mut Random, file: &mut Vec<u8>) {
     if random.one_in(4) {
         file[4] = random.below(4) as u8;
@@ -149,7 +170,7 @@ pub fn damage(random: &mut Random, file: &mut Vec<u8>) {
             return seal(file);
         }
     }
-    match random.below(6) {
+    match random.below(7) {
         0 => file.truncate(random.below(file.len() as u32 + 1) as usize),
         1 => file.resize(512 * random.below(7) as usize, 0),
         2 => {
@@ -164,10 +185,11 @@ pub fn damage(random: &mut Random, file: &mut Vec<u8>) {
             let at = random.below(file.len() as u32) as usize;
             file[at] = random.below(40) as u8;
         }
-        _ => {
+        5 => {
             let at = 8 + random.below(502) as usize;
             file[at] = random.word() as u8;
         }
+        _ => return seal_by(if file[4] == 2 { 1 } else { 2 }, file),
     }
     if !random.one_in(3) {
         seal(file);

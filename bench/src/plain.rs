@@ -54,12 +54,14 @@ pub struct Runner {
     state: State,
 }
 
-fn check_of(block: &[u8]) -> u32 {
-    block[..510].iter().zip(1u32..).map(|(b, i)| i * u32::from(*b)).sum::<u32>() % 65536
+/// The check of block j: in edition 2 it adds 511 times j.
+fn check_of(edition: u8, j: u32, block: &[u8]) -> u32 {
+    let added = if edition == 2 { 511 * j } else { 0 };
+    (added + block[..510].iter().zip(1u32..).map(|(b, i)| i * u32::from(*b)).sum::<u32>()) % 65536
 }
 
-fn is_sealed(block: &[u8]) -> bool {
-    check_of(block) == u32::from(block[510]) + 256 * u32::from(block[511])
+fn is_sealed(edition: u8, j: u32, block: &[u8]) -> bool {
+    check_of(edition, j, block) == u32::from(block[510]) + 256 * u32::from(block[511])
 }
 
 /// Whether an operation reads left and whether it reads right.
@@ -105,10 +107,10 @@ pub fn check(file: &[u8]) -> Result<Header, (u32, u32)> {
     if ![1024, 1536, 2048, 2560].contains(&file.len()) {
         return Err((1, 0));
     }
-    if let Some(j) = file.chunks(512).position(|b| !is_sealed(b)) {
-        return Err((2, j as u32));
-    }
     let header = Header { edition: file[4], inputs: file[5], boxes: file[6], first: file[7] };
+    if let Some((j, _)) = (0..).zip(file.chunks(512)).find(|(j, block)| !is_sealed(header.edition, *j, block)) {
+        return Err((2, j));
+    }
     let n = header.boxes;
     if &file[..4] != b"FLOW" || ![1, 2].contains(&header.edition) {
         return Err((3, 0));
@@ -370,7 +372,7 @@ impl Runner {
             } else {
                 block[..510].copy_from_slice(&self.table[510 * (j - 1)..510 * j]);
             }
-            let check = check_of(block) as u16;
+            let check = check_of(edition, j as u32, block) as u16;
             block[510..].copy_from_slice(&check.to_le_bytes());
         }
         Told::Written(length)

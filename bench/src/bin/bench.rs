@@ -34,9 +34,9 @@ fn checks(name: String, unit: &'static str, units: f64, count: u32, file: Vec<u8
     }
 }
 
-fn files(name: String, count: u32, boxes: usize) -> Vec<Row> {
-    let one = charts::straight(boxes);
-    let both = [one.clone(), charts::straight(boxes - 1)].concat();
+fn files(edition: u8, name: String, count: u32, boxes: usize) -> Vec<Row> {
+    let one = charts::straight(edition, boxes);
+    let both = [one.clone(), charts::straight(edition, boxes - 1)].concat();
     let (a, b, c, d, e, f) = (both.clone(), both, one.clone(), one.clone(), one.clone(), one);
     let row = |call: &str, ours: Side, plain: Side| Row {
         name: format!("{call} {name}"),
@@ -70,7 +70,8 @@ fn files(name: String, count: u32, boxes: usize) -> Vec<Row> {
 /// and reaches no decision, so that the run goes on to the limit. Health checks allow both inputs and end with a value.
 fn rows() -> Vec<Row> {
     let mut rows = Vec::new();
-    for (edition, named) in [(1, ""), (2, ", edition 2")] {
+    let editions = [(1, ""), (2, ", edition 2")];
+    for (edition, named) in editions {
         let charts =
             [("counting", charts::counting(edition)), ("operations", charts::operations(edition)), ("decisions", charts::decisions(edition))];
         for (name, chart) in charts {
@@ -81,10 +82,12 @@ fn rows() -> Vec<Row> {
         }
     }
     for n in [3, 20, 200] {
-        rows.push(checks(format!("health check of {n} boxes"), "check", 1.0, 400_000 / (20 + n as u32), charts::straight(n), [1, 3, 0]));
+        rows.push(checks(format!("health check of {n} boxes"), "check", 1.0, 400_000 / (20 + n as u32), charts::straight(1, n), [1, 3, 0]));
     }
-    rows.extend(files("2 blocks".into(), 2000, 51));
-    rows.extend(files("5 blocks".into(), 1000, 204));
+    for (edition, named) in editions {
+        rows.extend(files(edition, format!("2 blocks{named}"), 2000, 51));
+        rows.extend(files(edition, format!("5 blocks{named}"), 1000, 204));
+    }
     for steps in [10, 100, 1000, 10_000, 65_535] {
         rows.push(checks(format!("growth: {steps} boxes"), "box", f64::from(steps), 600_000 / steps, charts::counting(1), [1, 2, steps]));
     }

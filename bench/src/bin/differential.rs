@@ -9,10 +9,11 @@ use std::time::{Duration, Instant};
 
 const STRIDE: usize = 24;
 
-/// A list of calls as numbers, and the files that its loads and shows name.
+/// A list of calls as numbers, the files that its loads and shows name, and where in them the files begin that have two box blocks exchanged.
 struct Script {
     files: Vec<u8>,
     words: Vec<[u32; STRIDE]>,
+    exchanged: Vec<u32>,
 }
 
 fn call(arguments: &[u32]) -> [u32; STRIDE] {
@@ -59,14 +60,18 @@ fn amount(random: &mut Random, limit: u32) -> u32 {
 fn script(random: &mut Random) -> Script {
     let mut files = Vec::new();
     let mut words = Vec::new();
+    let mut exchanged = Vec::new();
     let mut limit = effective(0);
     for _ in 0..1 + random.below(4) {
         let mut file = charts::random_chart(random);
         let k = u32::from(file[5]);
+        let from = files.len() as u32;
         if random.one_in(3) {
             charts::damage(random, &mut file);
+        } else if random.one_in(6) && charts::exchange(random, &mut file) {
+            exchanged.push(from);
         }
-        let (from, length) = (files.len() as u32, file.len() as u32);
+        let length = file.len() as u32;
         files.extend(file);
         words.push(call(&[0, from, length]));
         for _ in 0..random.below(40) {
@@ -84,7 +89,7 @@ fn script(random: &mut Random) -> Script {
             });
         }
     }
-    Script { files, words }
+    Script { files, words, exchanged }
 }
 
 fn sum_of(bytes: &[u8]) -> u32 {
@@ -122,6 +127,7 @@ fn main() {
     let mut counts = [0u64; kinds::NAMES.len()];
     let mut refusals = [0u64; 25];
     let mut accepted = [0u64; 3];
+    let mut exchanged = [[0u64; 2]; 3];
     while Instant::now() < end {
         let script = script(&mut random);
         let flat: Vec<u32> = script.words.iter().flatten().copied().collect();
@@ -134,10 +140,19 @@ fn main() {
         for (i, (words, told)) in script.words.iter().zip(told.chunks(4)).enumerate() {
             let expected = plain(&mut runner, &script.files, words, &mut theirs);
             counts[expected[0] as usize] += 1;
-            match kinds::NAMES[expected[0] as usize] {
+            let name = kinds::NAMES[expected[0] as usize];
+            let edition = || usize::from(script.files[words[1] as usize + 4]);
+            match name {
                 "refused" => refusals[expected[1] as usize] += 1,
-                "chart" => accepted[usize::from(script.files[words[1] as usize + 4])] += 1,
+                "chart" => accepted[edition()] += 1,
                 _ => {}
+            }
+            if words[0] == 0 && script.exchanged.contains(&words[1]) {
+                match (name, expected[1]) {
+                    ("chart", _) => exchanged[edition()][0] += 1,
+                    ("refused", 2) => exchanged[edition()][1] += 1,
+                    _ => {}
+                }
             }
             if told != expected {
                 println!("seed {seed}, list {scripts}, call {i}: {words:?}");
@@ -158,5 +173,9 @@ fn main() {
     }
     for edition in [1, 2] {
         println!("loads of edition {edition}: {}", accepted[edition]);
+    }
+    for edition in [1, 2] {
+        let [loaded, refused] = exchanged[edition];
+        println!("exchanged blocks in edition {edition}: {loaded} loaded, {refused} refused by 2");
     }
 }

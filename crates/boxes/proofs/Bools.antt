@@ -1,4 +1,4 @@
--- Laws of && and ||: what a conjunction or a disjunction that holds says of its parts. Assumes nothing.
+-- Laws of && and ||: what a conjunction or a disjunction that holds says of its parts; and what never holds is false. Assumes nothing.
 use mathlib.Core.Path.{_≡_, refl}
 use mathlib.Core.List.{List, [], _∷_}
 use mathlib.Core.Bool.{Bool, true, false, _&&_, _||_, false≢true}
@@ -15,6 +15,10 @@ and-right false b e = absurd (false≢true e)
 pub or-cases : (a b : Bool) → (a || b) ≡ true → (a ≡ true) ⊎ (b ≡ true)
 or-cases true b e = inl refl
 or-cases false b e = inr e
+
+pub never-true : (b : Bool) → (b ≡ true → ⊥) → b ≡ false
+never-true true never = absurd (never refl)
+never-true false never = refl
 
 -- a && b && c and so on, as && associates.
 abbrev pub allOf : Bool → List Bool → Bool

@@ -3,7 +3,7 @@ use Prim.Native.Nat.{ℕ, zero, suc, _+_, _*_, _-_, _/_, min}
 use mathlib.Core.List.{List, [], _∷_, _++_}
 use lib.ListN.{length, replicate}
 use Rattle.boxes.specs.Bytes.{part}
-use Rattle.format.specs.Block.{seal}
+use Rattle.format.specs.Block.{addend, seal}
 use Rattle.format.specs.File.{headerOf, blocksFor}
 use Rattle.format.specs.declared.Header.{Header}
 
@@ -42,6 +42,10 @@ unfoldable pub bodyOf : Header → List ℕ → ℕ → List ℕ
 bodyOf h table zero = headerBody h
 bodyOf h table (suc j) = part table (510 * j) 510
 
--- The file of a chart: each block its 510 bytes and their check.
+-- Block j of a chart's file: those bytes and their check.
+abbrev pub sealedBlock : Header → List ℕ → ℕ → List ℕ
+sealedBlock h table j = seal (addend (h .edition) j) (bodyOf h table j)
+
+-- The file of a chart: its blocks.
 unfoldable pub fileOf : Header → List ℕ → List ℕ
-fileOf h table = joined (λ j. seal (bodyOf h table j)) (blocksFor (h .boxes))
+fileOf h table = joined (sealedBlock h table) (blocksFor (h .boxes))

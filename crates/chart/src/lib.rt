@@ -6,7 +6,7 @@ ghost use mathlib.Core.List.{_++_};
 ghost use Prim.Native.Nat.{_≤_};
 ghost use lib.ListN.{length, drop};
 ghost use Rattle.format.specs.Block.{seal};
-ghost use Rattle.chart.specs.Chart.{boxBlocks, tableOf, headerBody, bodyOf};
+ghost use Rattle.chart.specs.Chart.{boxBlocks, tableOf, headerBody, sealedBlock};
 ghost use Rattle.chart.specs.WriteBack.{fileLength, withFile, putFile};
 ghost use Rattle.chart.specs.ShowBox.{showBox, IsPart};
 
@@ -40,13 +40,13 @@ pub fn table_of(file: &[u8]) -> [u8; 2040]
     table
 }
 
-// The block whose bytes 0 to 509 are these, into the front of a part.
-fn write_block(part: &mut [u8], body: &[u8])
+// The block whose bytes 0 to 509 are these and whose check adds so much, into the front of a part.
+fn write_block(part: &mut [u8], added: u32, body: &[u8])
     requires { ⌜ (length (now body) ≡ 510) × (512 ≤ length (now part)) ⌝ }
-    ensures { λ _. ⌜ now (part .exit) ≡ seal (now (body .entry)) ++ drop 512 (now (part .entry)) ⌝ }
+    ensures { λ _. ⌜ now (part .exit) ≡ seal added (now (body .entry)) ++ drop 512 (now (part .entry)) ⌝ }
 {
     bytes::copy(body, part);
-    let check = format::checksum(body);
+    let check = format::checksum(added, body);
     part[510] = (check % 256) as u8;
     part[511] = (check / 256 % 256) as u8;
 }
@@ -69,16 +69,17 @@ fn header_body(header: Header) -> [u8; 510]
 // Block j of a chart's file, into the front of a part.
 fn write_nth(header: Header, table: &[u8], j: usize, part: &mut [u8])
     requires { ⌜ (length (now table) ≡ 2040) × (j ≤ 4) × (512 ≤ length (now part)) ⌝ }
-    ensures { λ _. ⌜ now (part .exit) ≡ seal (bodyOf header (now (table .entry)) j) ++ drop 512 (now (part .entry)) ⌝ }
+    ensures { λ _. ⌜ now (part .exit) ≡ sealedBlock header (now (table .entry)) j ++ drop 512 (now (part .entry)) ⌝ }
 {
+    let added = format::addend(header.edition, j as u8);
     if j == 0 {
         let body = header_body(header);
-        write_block(part, &body);
+        write_block(part, added, &body);
         return;
     }
     let start = 510 * (j - 1);
     let end = start + 510;
-    write_block(part, &table[start..end]);
+    write_block(part, added, &table[start..end]);
 }
 
 // The length of a chart's file. The contract tells callers the range.

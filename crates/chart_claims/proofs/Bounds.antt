@@ -4,9 +4,11 @@ use Prim.Native.Nat.{ℕ}
 use mathlib.Core.List.{List}
 use native.Mathlib.Omega.{arith}
 use Rattle.format.specs.declared.Header.{Header}
+use Rattle.format.proofs.Accepted.{accepted}
 use Rattle.chart_claims.specs.Claims.{HeaderInRange, BoxInRange, assignment, decision, halt}
-use Rattle.chart_claims.specs.Bounds.{ExactRoom, LastBoxShown, HeaderBounds, BoxBounds, LoadsWithinBounds}
+use Rattle.chart_claims.specs.Bounds.{ExactRoom, LastBoxShown, EndsExchanged, HeaderBounds, BoxBounds, LoadsWithinBounds}
 use Rattle.chart_claims.proofs.RoundTrip.{reproduces-file}
+use Rattle.chart_claims.proofs.Exchanged.{exchange-refused}
 use Rattle.chart_claims.proofs.Rules.{obeys-rules, shows-the-box, stays-in-range}
 
 pub header-bounds : {h : Header} → HeaderInRange h → HeaderBounds h
@@ -22,6 +24,11 @@ exact-room f h e = (reproduces-file f h e .1, reproduces-file f h e .2 f (omega 
 
 pub last-box-shown : LastBoxShown
 last-box-shown f h p e l = shows-the-box f h p e (omega arith) .1
+
+pub ends-exchanged : EndsExchanged
+ends-exchanged f h j e two last other =
+    let a = accepted f h e in
+    exchange-refused f h 1 j e two (omega arith) (omega (arith, a .long, a .some)) (omega arith)
 
 pub loads-within-bounds : LoadsWithinBounds
 loads-within-bounds f h e =

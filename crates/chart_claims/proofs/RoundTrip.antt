@@ -1,46 +1,42 @@
 -- The round trip. Each block of an accepted file is its first 510 bytes with their check; those bytes are the header's or stand in the box
 -- table; so the blocks that write back joins are the file's, and what holds of the file holds of what is written. Assumes nothing.
-use Prim.Native.Nat.{ℕ, zero, suc, _+_, _*_, _-_, _/_, _%_, _≤_, _<_}
+use Prim.Native.Nat.{ℕ, zero, suc, _+_, _*_, _-_, _≤_, _<_}
 use mathlib.Core.Path.{_≡_, refl, ap, sym, _∙_}
 use mathlib.Core.List.{List, [], _∷_, _++_}
 use mathlib.Core.Bool.{true}
 use native.Mathlib.Omega.{arith}
 use native.Mathlib.Nat.{mul-suc}
-use lib.Dec.{eqb}
 use lib.ListN.{length, take, drop, replicate, take-append-drop, drop-of-length-le}
 use lib.Seq.{take-add, take-all, take-take, drop-cons}
-use borrow.Author.Tests.{le-leb, eqb-true}
+use borrow.Author.Tests.{le-leb}
 use Rattle.boxes.specs.Bytes.{at, part}
-use Rattle.format.specs.Block.{checksum, isSealed, seal}
-use Rattle.format.specs.File.{blockOf, blocksFor, checkFile}
+use Rattle.format.specs.Block.{addend, isSealed, seal}
+use Rattle.format.specs.File.{blockOf, blocksFor, checkRule, checkFile}
 use Rattle.format.specs.declared.Header.{Header}
 use Rattle.format.specs.declared.Checked.the-variants as checked
-use Rattle.boxes.proofs.Bools.{and-left, and-right}
 use Rattle.format.proofs.Sums.{check-front}
+use Rattle.format.proofs.Seals.{sealed-bytes}
 use Rattle.boxes.proofs.Zeros.{zeros-are}
 use Rattle.format.proofs.Accepted.{Accepted, accepted}
 use Rattle.format.proofs.Ranges.{in-range}
-use Rattle.chart.specs.Chart.{joined, boxBlocks, boxesOf, tableOf, headerBody, bodyOf, fileOf}
+use Rattle.chart.specs.Chart.{joined, boxBlocks, boxesOf, tableOf, headerBody, bodyOf, sealedBlock, fileOf}
 use Rattle.chart.specs.WriteBack.{fileLength, hasRoom, withFile, putFile}
 use Rattle.chart_claims.specs.Claims.{FileHasLength, ReproducesFile, ReproducesChart}
 use Rattle.chart.proofs.Lists.{length-part}
 use Rattle.chart.proofs.Joined.{joined-length, joined-same, joined-piece}
-use Rattle.chart.proofs.Blocks.{length-seal, length-body}
+use Rattle.chart.proofs.Blocks.{blocks-sized}
 use Rattle.chart.proofs.Writes.{put-fits}
 
 -- A block that holds its check is its first 510 bytes, sealed.
-seal-front : (b : List ℕ) → length b ≡ 512 → isSealed b ≡ true → seal (take 510 b) ≡ b
-unfolding seal isSealed
-seal-front b l e =
-    let lows = eqb (at b 510) (checksum b % 256) in
-    let highs = eqb (at b 511) (checksum b / 256) in
-    let low : checksum b % 256 ≡ at b 510 = sym (eqb-true (at b 510) (checksum b % 256) (and-left lows highs e)) in
-    let high : checksum b / 256 ≡ at b 511 = sym (eqb-true (at b 511) (checksum b / 256) (and-right lows highs e)) in
+seal-front : (added : ℕ) (b : List ℕ) → length b ≡ 512 → isSealed added b ≡ true → seal added (take 510 b) ≡ b
+unfolding seal
+seal-front added b l e =
+    let bytes = sealed-bytes added b e in
     let past : length b ≤ 512 = omega arith in
     let two : drop 510 b ≡ at b 510 ∷ at b 511 ∷ [] =
     drop-cons b 510 0 (omega arith)
     ∙ ap (λ (t : List ℕ). at b 510 ∷ t) (drop-cons b 511 0 (omega arith) ∙ ap (λ (t : List ℕ). at b 511 ∷ t) (drop-of-length-le b past)) in
-    rw (check-front b, low, high, ← two) (take-append-drop 510 b)
+    rw (check-front added b, bytes .0, bytes .1, ← two) (take-append-drop 510 b)
 
 -- The first eight bytes, one by one.
 eight : (f : List ℕ) → 8 ≤ length f → take 8 f ≡ at f 0 ∷ at f 1 ∷ at f 2 ∷ at f 3 ∷ at f 4 ∷ at f 5 ∷ at f 6 ∷ at f 7 ∷ []
@@ -79,10 +75,12 @@ module _ (f : List ℕ) (h : Header) (e : checkFile f ≡ checked.Accepted h) wh
       ∙ ap (λ (x : ℕ). part f (512 * x) 510) up
       ∙ sym (take-take 510 512 (drop (512 * suc j) f) (omega arith))
 
-  block-again : (j : ℕ) → j < blocksFor (h .boxes) → seal (bodyOf h (tableOf f) j) ≡ blockOf f j
+  block-again : (j : ℕ) → j < blocksFor (h .boxes) → sealedBlock h (tableOf f) j ≡ blockOf f j
+  unfolding checkRule
   block-again j l =
       let a = facts in
-      ap seal (body-again j l) ∙ seal-front (blockOf f j) (length-part f (512 * j) 512 (omega (arith, a .long))) (a .checks j l)
+      let added = addend (h .edition) j in
+      ap (seal added) (body-again j l) ∙ seal-front added (blockOf f j) (length-part f (512 * j) 512 (omega (arith, a .long))) (a .checks j l)
 
 -- The blocks of a list, joined, are its front.
 joined-blocks : (f : List ℕ) (m : ℕ) → joined (blockOf f) m ≡ take (512 * m) f
@@ -95,7 +93,7 @@ pub file-again : (f : List ℕ) (h : Header) → checkFile f ≡ checked.Accepte
 unfolding fileOf
 file-again f h e =
     let a = accepted f h e in
-    joined-same (λ j. seal (bodyOf h (tableOf f) j)) (blockOf f) (blocksFor (h .boxes)) (block-again f h e)
+    joined-same (sealedBlock h (tableOf f)) (blockOf f) (blocksFor (h .boxes)) (block-again f h e)
     ∙ joined-blocks f (blocksFor (h .boxes))
     ∙ take-all (512 * blocksFor (h .boxes)) f (omega (arith, a .long))
 
@@ -118,4 +116,4 @@ pub file-has-length : FileHasLength
 unfolding fileOf
 file-has-length h table held long =
     let few = in-range h held .fits in
-    joined-length (λ j. seal (bodyOf h table j)) 512 (blocksFor (h .boxes)) (λ i l. length-seal _ (length-body h table i long (omega arith)))
+    joined-length (sealedBlock h table) 512 (blocksFor (h .boxes)) (blocks-sized h table (blocksFor (h .boxes)) long (omega arith))

@@ -6,12 +6,13 @@ use mathlib.Core.Logic.{_≢_}
 use mathlib.Core.Bool.{true}
 use lib.ListN.{length}
 use Rattle.boxes.specs.Bytes.{at, part, allZero, boxOf}
-use Rattle.format.specs.File.{boxRule, checkFile}
+use Rattle.format.specs.File.{blockOf, boxRule, refusal, checkFile}
 use Rattle.format.specs.declared.Header.{Header}
-use Rattle.format.specs.declared.Checked.the-variants.{Accepted}
+use Rattle.format.specs.declared.Checked.the-variants.{Accepted, Refused}
 use Rattle.chart.specs.Chart.{tableOf}
 use Rattle.chart.specs.ShowBox.{showBox}
 use Rattle.chart.specs.WriteBack.{fileLength, hasRoom}
+use Rattle.chart_claims.specs.Exchanged.{blocksOf, exchanged}
 
 -- "12: the buffer for writing back is shorter than the file": one exactly as long is enough.
 abbrev pub ExactRoom : Type 0
@@ -24,6 +25,16 @@ LastBoxShown =
     → checkFile f ≡ Accepted h
     → p + 1 ≡ h .boxes
     → part f (showBox f p .start) (showBox f p .size) ≡ boxOf (tableOf f) p
+
+-- "Two .. box blocks exchanged": the first of them with the last, also where the two are neighbours.
+abbrev pub EndsExchanged : Type 0
+EndsExchanged =
+    (f : List ℕ) (h : Header) (j : ℕ)
+    → checkFile f ≡ Accepted h
+    → h .edition ≡ 2
+    → j + 1 ≡ blocksOf f
+    → j ≢ 1
+    → (blockOf f 1 ≢ blockOf f j) × (checkFile (exchanged 1 j f) ≡ Refused (refusal 2 1))
 
 -- Edition 1 or 2; "k, 0 to 16"; "n, 1 to 204"; "the first box run, below n": no number is the first one out of range.
 pub record HeaderBounds (h : Header) : Type 0 where

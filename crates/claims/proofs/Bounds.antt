@@ -1,11 +1,12 @@
 -- The claims at their exact bounds, each from the theorem of its claim and nothing else. Assumes nothing.
 use Prim.Native.Nat.{ℕ, _+_, _-_}
-use mathlib.Core.Path.{_≡_, refl, ap, sym, _∙_}
+use mathlib.Core.Path.{_≡_, ap, sym, _∙_}
 use mathlib.Core.List.{List, [], _∷_, _++_, append-nil}
-use mathlib.Core.Bool.{Bool, true, false, true≢false}
+use mathlib.Core.Bool.{true≢false}
 use native.Mathlib.Omega.{arith}
 use lib.ListN.{length, drop}
 use lib.Seq.{drop-length}
+use Rattle.boxes.proofs.Bools.{never-true}
 use Rattle.chart_claims.proofs.Bounds.{header-bounds, box-bounds}
 use Rattle.begin.specs.Begin.{effective}
 use Rattle.begin.proofs.Begins.{effective-positive}
@@ -80,10 +81,6 @@ states-within-bounds = (
 pub names-within-bounds : NamesWithinBounds
 names-within-bounds r mode inputs allowed limit a cs q t m =
     let only = names-withheld r mode inputs allowed limit a cs q t m in (
-      absent _ (λ e. let s = only (r .header .inputs) e in omega arith),
-      (λ j y. absent _ (λ e. true≢false (sym y ∙ only j e .1))),
+      never-true _ (λ e. let s = only (r .header .inputs) e in omega arith),
+      (λ j y. never-true _ (λ e. true≢false (sym y ∙ only j e .1))),
     )
-  where
-    absent : (b : Bool) → (b ≡ true → ⊥) → b ≡ false
-    absent true f = absurd (f refl)
-    absent false f = refl

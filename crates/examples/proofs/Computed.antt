@@ -7,11 +7,13 @@ use lib.ListN.{set}
 use lib.Count.{onesIn, ones, ones-cat}
 use Rattle.machine.specs.Run.{valued}
 use Rattle.runner.specs.Outcomes.{done, chart, ended, ending}
+use Rattle.chart_claims.specs.Exchanged.{rearranged, inPlaceOf}
 use Rattle.examples.specs.Cases.{Given, told, number, gives, replied, expected}
 use Rattle.examples.specs.Files.{fileCases, FileExamples}
 use Rattle.examples.specs.Runs.{markedCases, MarkedCases, namingCases, NamingCases, hiddenCases, HiddenCases}
 use Rattle.examples.specs.Editions.{editionCases, EditionCases}
-use Rattle.examples.proofs.Open.{files-open, runs-open}
+use Rattle.examples.specs.Checks.{threeOne, threeTwo, checkCases, CheckCases, BlocksExchanged}
+use Rattle.examples.proofs.Open.{files-open, tables-open, runs-open}
 
 pub file-examples : FileExamples
 unfolding files-open gives expected fileCases
@@ -49,3 +51,11 @@ hidden-cases = (refl, refl)
 pub edition-cases : EditionCases
 unfolding runs-open gives expected editionCases
 edition-cases = (refl, refl)
+
+pub check-cases : CheckCases
+unfolding runs-open gives expected rearranged inPlaceOf threeOne threeTwo checkCases
+check-cases = (refl, refl)
+
+pub blocks-exchanged : BlocksExchanged
+unfolding files-open tables-open rearranged inPlaceOf
+blocks-exchanged = refl

@@ -3,8 +3,8 @@ use lib.Count.{trailingZeros}
 use Rattle.boxes.specs.Bytes.{allZero}
 use Rattle.boxes.specs.Box.{operandRule, assignmentRule, decisionRule, haltRule, wellFormed}
 use Rattle.format.specs.Search.{firstFrom}
-use Rattle.format.specs.Block.{weighted, checksum, isSealed, seal}
-use Rattle.format.specs.File.{headerRule, placeRule, checkFile}
+use Rattle.format.specs.Block.{weighted, addend, checksum, isSealed, seal}
+use Rattle.format.specs.File.{checkRule, headerRule, placeRule, checkFile}
 use Rattle.chart.specs.Chart.{joined, tableOf, headerBody, bodyOf, fileOf}
 use Rattle.chart.specs.WriteBack.{withFile}
 use Rattle.operations.specs.Operation.{readBy, valueOfLeft, sum, difference, quotient, remainder, valueOfBoth, valueOf, compares}
@@ -17,15 +17,15 @@ use Rattle.calls.specs.Calls.{fileVerdict, check}
 use Rattle.runner.specs.State.{newRunner, endedWith, dropped, resumed}
 use Rattle.runner.specs.Outcomes.{after, progressReply, says, outcomeBy, call}
 use Rattle.claims.specs.Lists.{tells, final}
-use Rattle.examples.specs.Charts.{chartA, chartB, chartC, chartD, headE, boxesE, chartE, chartPair, chartChain, chartTwice, chartSum}
+use Rattle.examples.specs.Charts.{chartA, chartB, chartC, chartD, headE, boxesE, chartE, boxesETwo, chartPair, chartChain, chartTwice, chartSum}
 use Rattle.examples.specs.Charts.{sumOne, sumTwo, differenceOne, differenceTwo, zerosOne, zerosTwo, fiveBlocks}
 
 unfoldable pub rules-open : Unit {0}
-unfolding allZero firstFrom weighted checksum isSealed operandRule assignmentRule decisionRule haltRule wellFormed headerRule placeRule checkFile
+unfolding allZero firstFrom weighted addend checksum isSealed checkRule operandRule assignmentRule decisionRule haltRule wellFormed headerRule placeRule checkFile
 rules-open = tt
 
 unfoldable pub files-open : Unit {0}
-unfolding rules-open chartA chartB chartC chartD headE boxesE chartE chartPair chartChain chartTwice chartSum sumOne sumTwo differenceOne differenceTwo zerosOne zerosTwo fiveBlocks
+unfolding rules-open chartA chartB chartC chartD headE boxesE chartE boxesETwo chartPair chartChain chartTwice chartSum sumOne sumTwo differenceOne differenceTwo zerosOne zerosTwo fiveBlocks
 files-open = tt
 
 unfoldable pub tables-open : Unit {0}

@@ -17,13 +17,13 @@ use Rattle.runner.specs.Outcomes.{Reply, done, chart, ended, ending, wrote, Tol
 use Rattle.claims.specs.Lists.{tells}
 
 -- A file and the answer of load's input checks; a file that is loaded and written back to itself; a chart's file, what begin is given, and the ending with its
--- steps; an operation of an edition, its operands and its result; or a block and its check.
+-- steps; an operation of an edition, its operands and its result; or what a block's check adds, the block, and its check.
 pub data Case : Type 0 where
   answers : (file : List ℕ) → Checked → Case
   returns : (file : List ℕ) → Case
   runs : (file : List ℕ) (mode : ℕ) (inputs : List ℕ) (allowed limit : ℕ) → Ending → (steps : ℕ) → Case
   operates : (edition op left right result : ℕ) → Case
-  checks : (block : List ℕ) (check : ℕ) → Case
+  checks : (added : ℕ) (block : List ℕ) (check : ℕ) → Case
 
 -- What a case gives: the answer of the checks, what calls tell, or a number.
 pub data Given : Type 0 where
@@ -39,7 +39,7 @@ gives (returns file) = told (tells (load file ∷ writeBack (replicate (length f
 gives (runs file mode inputs allowed limit e steps) =
     told (tells (load file ∷ begin mode inputs allowed limit ∷ advance (effective limit) ∷ answer ∷ []) newRunner)
 gives (operates edition op left right result) = number (valueOf edition op 0 (readBy edition op left right))
-gives (checks block check) = number (checksum block)
+gives (checks added block check) = number (checksum added block)
 
 -- Replies where no byte is lent to be written.
 abbrev pub replied : List Reply → List Told
@@ -70,7 +70,7 @@ expected (returns file) = told (record { reply = loaded file; buffer = [] } ∷ 
 expected (runs file mode inputs allowed limit e steps) =
     told (replied (loaded file ∷ done ∷ ended (stepsAtTheEnd mode steps) ∷ ending e steps ∷ []))
 expected (operates edition op left right result) = number result
-expected (checks block check) = number check
+expected (checks added block check) = number check
 
 -- A table of so many cases, each of which gives what is expected.
 abbrev pub Table : ℕ → List Case → Type 0

@@ -1,5 +1,5 @@
--- Charts A to E of document 01, charts whose notices name inputs (02, a), and charts of both editions (02, c), as files. The two bytes of each check are written
--- out, not computed by the definitions.
+-- Charts A to E of document 01, charts whose notices name inputs (02, a), and charts of both editions (02, c and d), as files. The two bytes of each check are
+-- written out, not computed by the definitions.
 use Prim.Native.Nat.{ℕ, zero, suc, _-_}
 use mathlib.Core.List.{List, [], _∷_, _++_}
 use lib.ListN.{length, replicate}
@@ -53,6 +53,10 @@ boxesE = block (assign 31 0 0 0 1 5 ++ halt) 137 0
 unfoldable pub chartE : List ℕ
 chartE = headE ++ boxesE
 
+-- Its boxes in edition 2, where the check of block 1 adds 511: 648.
+unfoldable pub boxesETwo : List ℕ
+boxesETwo = block (assign 31 0 0 0 1 5 ++ halt) 136 2
+
 -- k 3: decides 0 equal 2, and halts either way.
 unfoldable pub chartPair : List ℕ
 chartPair = block (front 1 3 2 0) 76 3 ++ block (decide 0 0 2 1 1 ++ halt) 58 0
@@ -70,34 +74,34 @@ chartTwice = block (front 1 2 2 0) 70 3 ++ block (decide 0 1 1 1 1 ++ halt) 57 0
 unfoldable pub chartSum : List ℕ
 chartSum = block (front 1 16 2 0) 154 3 ++ block (assign 31 2 0 15 1 0 ++ halt) 183 0
 
--- k 2: 31 is an operation of variable 0 and another operand, in an edition. The high bytes of the checks are 3 and 0.
-abbrev pub operating : (edition op right low low′ : ℕ) → List ℕ
-operating edition op right low low′ = block (front edition 2 2 0) low 3 ++ block (assign 31 op 0 right 1 0 ++ halt) low′ 0
+-- k 2: 31 is an operation of variable 0 and another operand, in an edition. The high byte of the first check is 3.
+abbrev pub operating : (edition op right low low′ high′ : ℕ) → List ℕ
+operating edition op right low low′ high′ = block (front edition 2 2 0) low 3 ++ block (assign 31 op 0 right 1 0 ++ halt) low′ high′
 
 -- Variable 0 plus variable 1, minus it, and operation 11, which reads variable 1 in edition 2 alone.
 unfoldable pub sumOne : List ℕ
-sumOne = operating 1 2 1 70 113
+sumOne = operating 1 2 1 70 113 0
 
 unfoldable pub sumTwo : List ℕ
-sumTwo = operating 2 2 1 75 113
+sumTwo = operating 2 2 1 75 112 2
 
 unfoldable pub differenceOne : List ℕ
-differenceOne = operating 1 3 1 70 116
+differenceOne = operating 1 3 1 70 116 0
 
 unfoldable pub differenceTwo : List ℕ
-differenceTwo = operating 2 3 1 75 116
+differenceTwo = operating 2 3 1 75 115 2
 
 unfoldable pub zerosOne : List ℕ
-zerosOne = operating 1 11 0 70 135
+zerosOne = operating 1 11 0 70 135 0
 
 unfoldable pub zerosTwo : List ℕ
-zerosTwo = operating 2 11 1 75 140
+zerosTwo = operating 2 11 1 75 139 2
 
 -- Edition 2, 204 boxes in 5 blocks: the first is operation 11 of variables 0 and 1, the last adds them, and the others halt.
 unfoldable pub fiveBlocks : List ℕ
 fiveBlocks =
     block (front 2 2 204 0) 209 8
-    ++ block (assign 31 11 0 1 1 0 ++ halts 50) 107 150
-    ++ block (halts 51) 3 150
-    ++ block (halts 51) 3 150
-    ++ block (halts 50 ++ assign 31 2 0 1 203 0) 8 102
+    ++ block (assign 31 11 0 1 1 0 ++ halts 50) 106 152
+    ++ block (halts 51) 1 154
+    ++ block (halts 51) 0 156
+    ++ block (halts 50 ++ assign 31 2 0 1 203 0) 4 110

@@ -3,7 +3,7 @@
 use mathlib.Core.List.{List, [], _∷_, _++_}
 use lib.ListN.{set}
 use Rattle.machine.specs.Run.{valued, notice}
-use Rattle.examples.specs.Charts.{block, front, assign, halt, operating, sumOne, sumTwo, differenceOne, differenceTwo, zerosOne, zerosTwo, fiveBlocks}
+use Rattle.examples.specs.Charts.{block, front, assign, halt, boxesETwo, operating, sumOne, sumTwo, differenceOne, differenceTwo, zerosOne, zerosTwo, fiveBlocks}
 use Rattle.examples.specs.Cases.{Case, answers, returns, runs, operates, bare, surveillance, highWater, Table}
 use Rattle.examples.specs.Files.{accepted, refused, withHead}
 
@@ -40,13 +40,13 @@ editionCases =
     ∷ operates 1 4 65536 65536 0
     ∷ operates 2 4 65536 65536 0
     -- the right operand of operation 11: variable 16, and inputs at k and above it, in edition 2; in edition 1 any but 0 is 6
-    ∷ answers (operating 2 11 16 75 215) (accepted 2 2 2 0)
-    ∷ answers (operating 2 11 2 75 145) (refused 6 0)
-    ∷ answers (operating 2 11 15 75 210) (refused 6 0)
-    ∷ answers (operating 1 11 1 70 140) (refused 6 0)
-    ∷ answers (operating 1 11 16 70 215) (refused 6 0)
+    ∷ answers (operating 2 11 16 75 214 2) (accepted 2 2 2 0)
+    ∷ answers (operating 2 11 2 75 144 2) (refused 6 0)
+    ∷ answers (operating 2 11 15 75 209 2) (refused 6 0)
+    ∷ answers (operating 1 11 1 70 140 0) (refused 6 0)
+    ∷ answers (operating 1 11 16 70 215 0) (refused 6 0)
     -- and without inputs 0 is none that can be read
-    ∷ answers (block (front 2 0 2 0) 63 3 ++ block (assign 31 11 16 0 1 0 ++ halt) 199 0) (refused 6 0)
+    ∷ answers (block (front 2 0 2 0) 63 3 ++ block (assign 31 11 16 0 1 0 ++ halt) 198 2) (refused 6 0)
     ∷ answers (block (front 1 0 2 0) 58 3 ++ block (assign 31 11 16 0 1 0 ++ halt) 199 0) (accepted 1 0 2 0)
     -- 3: editions 0, 3 and 255; after 2, and before 4, to which edition 2 comes
     ∷ answers (withHead (front 0 1 2 0) 59 3) (refused 3 0)
@@ -54,10 +54,10 @@ editionCases =
     ∷ answers (withHead (front 255 1 2 0) 54 8) (refused 3 0)
     ∷ answers (set (withHead (front 3 1 2 0) 74 3) 518 6) (refused 2 1)
     ∷ answers (withHead (front 3 17 2 0) 170 3) (refused 3 0)
-    ∷ answers (withHead (front 2 17 2 0) 165 3) (refused 4 0)
+    ∷ answers (block (front 2 17 2 0) 165 3 ++ boxesETwo) (refused 4 0)
     -- files of 2 and of 5 blocks
     ∷ returns zerosTwo
-    ∷ returns (withHead (front 2 1 2 0) 69 3)
+    ∷ returns (block (front 2 1 2 0) 69 3 ++ boxesETwo)
     ∷ returns fiveBlocks
     ∷ []
 

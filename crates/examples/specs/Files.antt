@@ -1,4 +1,4 @@
--- What load's input checks answer: charts A to E, and files that break one rule each or several. Files of other editions are in `Editions.antt`.
+-- What load's input checks answer: charts A to E, and files that break one rule each or several. Files of edition 2 are in `Editions.antt` and `Checks.antt`.
 use Prim.Native.Nat.{ℕ}
 use mathlib.Core.List.{List, [], _∷_, _++_}
 use lib.ListN.{take, replicate, set}

@@ -27,8 +27,8 @@ markedCases x =
     ∷ runs chartD surveillance (x ∷ []) 1 0 (valued 0) 2
     -- "E .. (P) Surveillance, allowed 0: value 5, 2. (P) Checks: block 0 has 832, block 1 has 137."
     ∷ runs chartE surveillance (x ∷ []) 0 0 (valued 5) 2
-    ∷ checks headE 832
-    ∷ checks boxesE 137
+    ∷ checks 0 headE 832
+    ∷ checks 0 boxesE 137
     -- "(P) 4,294,967,295 plus 1 is 0; 0 minus 1 is 4,294,967,295; 7 by 0 leaves quotient 0, remainder 7; one bits of 4,294,967,295: 32."
     ∷ operates 1 2 4294967295 1 0
     ∷ operates 1 3 0 1 4294967295

@@ -10,8 +10,7 @@ use lib.ListN.{length}
 use borrow.Author.Tests.{eqb-true, not-false}
 use Rattle.boxes.specs.Bytes.{at, part, allZero}
 use Rattle.format.specs.Search.{firstFailing}
-use Rattle.format.specs.Block.{isSealed}
-use Rattle.format.specs.File.{blockOf, blocksFor, headerOf, isEdition, inRange, lengthRule, lettersRule, headerRule, placeRule, refusal, checkFile}
+use Rattle.format.specs.File.{blocksFor, headerOf, isEdition, inRange, lengthRule, checkRule, lettersRule, headerRule, placeRule, refusal, checkFile}
 use Rattle.format.specs.declared.Header.{Header}
 use Rattle.format.specs.declared.Checked.{Checked}
 use Rattle.format.specs.declared.Checked.the-variants as checked
@@ -29,6 +28,7 @@ pub record Letters (f : List ℕ) : Type 0 where
 
 pub record Accepted (f : List ℕ) (h : Header) : Type 0 where
   pub header : h ≡ headerOf f
+  pub sized : lengthRule (length f) ≡ true
   pub long : length f ≡ 512 * blocksFor (h .boxes)
   pub some : 1 ≤ h .boxes
   pub fits : h .boxes ≤ 204
@@ -38,7 +38,7 @@ pub record Accepted (f : List ℕ) (h : Header) : Type 0 where
   pub rest : allZero (part f 8 502) ≡ true
   pub letters : Letters f
   pub edition : isEdition (h .edition) ≡ true
-  pub checks : (j : ℕ) → j < blocksFor (h .boxes) → isSealed (blockOf f j) ≡ true
+  pub checks : (j : ℕ) → j < blocksFor (h .boxes) → checkRule f h j ≡ true
   pub places : (p : ℕ) → p < 51 * (blocksFor (h .boxes) - 1) → placeRule f h p ≡ true
 
 -- A check that a file passed did not refuse it.
@@ -63,7 +63,7 @@ unfolding checkFile headerRule
 accepted f h e =
     let blocks = length f / 512 in
     let places = 51 * (blocks - 1) in
-    let wrong = firstFailing (λ j. isSealed (blockOf f j)) blocks in
+    let wrong = firstFailing (checkRule f (headerOf f)) blocks in
     let broken = firstFailing (placeRule f (headerOf f)) places in
     let one = passed (not (lengthRule (length f))) 1 0 e in
     let two = passed (ltb wrong blocks) 2 wrong (one .1) in
@@ -81,6 +81,7 @@ accepted f h e =
     rw same
     (record {
       header = refl;
+      sized = not-false _ (one .0);
       long = omega (arith, b .whole, size);
       some = s .some;
       fits = s .fits;
@@ -90,6 +91,6 @@ accepted f h e =
       rest = and-right (inRange (headerOf f)) (allZero (part f 8 502)) rule;
       letters = first .0;
       edition = first .1;
-      checks = λ j l. all-hold (λ i. isSealed (blockOf f i)) blocks (two .0) j (omega arith);
+      checks = λ j l. all-hold (checkRule f (headerOf f)) blocks (two .0) j (omega arith);
       places = λ p l. all-hold (placeRule f (headerOf f)) places (six .0) p (omega arith);
     })

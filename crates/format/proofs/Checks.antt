@@ -6,8 +6,7 @@ use mathlib.Core.Bool.{true, false}
 use lib.ListN.{length}
 use borrow.Author.Tests.{lt-ltb, le-ltb, eq-eqb, ne-eqb}
 use Rattle.format.specs.Search.{firstFailing}
-use Rattle.format.specs.Block.{isSealed}
-use Rattle.format.specs.File.{blockOf, blocksFor, headerOf, lengthRule, lettersRule, headerRule, placeRule, refusal, checkFile}
+use Rattle.format.specs.File.{blocksFor, headerOf, lengthRule, checkRule, lettersRule, headerRule, placeRule, refusal, checkFile}
 use Rattle.format.specs.declared.Checked.the-variants.{Accepted, Refused}
 
 -- The names of checkFile's definition.
@@ -16,7 +15,7 @@ module _ (f : List ℕ) where
   blocks = length f / 512
 
   abbrev pub wrong : ℕ
-  wrong = firstFailing (λ j. isSealed (blockOf f j)) blocks
+  wrong = firstFailing (checkRule f (headerOf f)) blocks
 
   abbrev pub places : ℕ
   places = 51 * (blocks - 1)

@@ -1,5 +1,5 @@
--- Laws of firstFailing: how a loop that counts up looks for the number, and what it says where no number fails.
--- search-start, search-more, search-stop, search-end; all-hold. Assumes nothing.
+-- Laws of firstFailing: how a loop that counts up looks for the number, what it says where no number fails, and which number it is.
+-- search-start, search-more, search-stop, search-end; all-hold; first-is. Assumes nothing.
 use Prim.Native.Nat.{ℕ, zero, suc, _+_, _-_, _≤_, _<_}
 use mathlib.Core.Path.{_≡_, refl, ap, sym, _∙_}
 use mathlib.Core.Bool.{Bool, true, false, cond}
@@ -51,3 +51,16 @@ module _ (test : ℕ → Bool) where
 
   pub all-hold : (count : ℕ) → ltb (firstFailing test count) count ≡ false → (j : ℕ) → j < count → test j ≡ true
   all-hold count e j l = all-from count 0 (omega (arith, ltb-false (firstFailing test count) count e)) j (omega arith) (omega arith)
+
+  first-from : (left k i : ℕ) → k ≤ i → i < k + left → ((j : ℕ) → j < i → test j ≡ true) → test i ≡ false → firstFrom test k left ≡ i
+  unfolding firstFrom
+  first-from zero k i l q before here = absurd (omega arith)
+  first-from (suc left) k i l q before here =
+      ⊎-elim
+      (λ e. let fails : test k ≡ false = ap test e ∙ here in rw fails e)
+      (λ d. rw (before k d) (first-from left (k + 1) i (omega arith) (omega arith) before here))
+      (eq-or-lt-of-le l)
+
+  -- The number that fails where those below it do not.
+  pub first-is : (count i : ℕ) → i < count → ((j : ℕ) → j < i → test j ≡ true) → test i ≡ false → firstFailing test count ≡ i
+  first-is count i l before here = first-from count 0 i (omega arith) (omega arith) before here

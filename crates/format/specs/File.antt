@@ -6,7 +6,7 @@ use lib.Dec.{eqb, ltb, leb}
 use lib.ListN.{length}
 use Rattle.boxes.specs.Bytes.{at, part, allZero}
 use Rattle.format.specs.Search.{firstFailing}
-use Rattle.format.specs.Block.{isSealed}
+use Rattle.format.specs.Block.{addend, isSealed}
 use Rattle.boxes.specs.Box.{wellFormed}
 use Rattle.format.specs.declared.Header.{Header}
 use Rattle.format.specs.declared.Refusal.{Refusal}
@@ -36,6 +36,10 @@ blocksFor n = 1 + (n + 50) / 51
 abbrev pub lengthRule : ℕ → Bool
 lengthRule bytes = eqb bytes 1024 || eqb bytes 1536 || eqb bytes 2048 || eqb bytes 2560
 
+-- "2: a block's check differs." 02, d: "It refuses a block whose changed check differs by 2, in the old place", so byte 4 of block 0 counts whatever the letters are.
+unfoldable pub checkRule : List ℕ → Header → ℕ → Bool
+checkRule f h b = isSealed (addend (h .edition) b) (blockOf f b)
+
 -- 02, c: "an edition byte other than 1 or 2" is refused.
 abbrev pub isEdition : ℕ → Bool
 isEdition edition = eqb edition 1 || eqb edition 2
@@ -64,12 +68,12 @@ placeRule f h p = cond (ltb p (h .boxes)) (boxRule h (placeOf f p)) (allZero (pl
 abbrev pub refusal : ℕ → ℕ → Refusal
 refusal number detail = record { number = number; detail = detail }
 
--- Load's input checks, "1 to 6 in order": "2: a block's check differs. Detail: the first such block." "5: the length doesn't fit n." "6: ..
+-- Load's input checks, "1 to 6 in order": "2: .. Detail: the first such block." "5: the length doesn't fit n." "6: ..
 -- Detail: the first such place."
 unfoldable pub checkFile : List ℕ → Checked
 checkFile f =
     let blocks = length f / 512 in
-    let wrong = firstFailing (λ j. isSealed (blockOf f j)) blocks in
+    let wrong = firstFailing (checkRule f (headerOf f)) blocks in
     let places = 51 * (blocks - 1) in
     let broken = firstFailing (placeRule f (headerOf f)) places in
     cond (not (lengthRule (length f))) (Refused (refusal 1 0))

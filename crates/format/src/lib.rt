@@ -1,14 +1,14 @@
 // The chart file's rules: what load's input checks 1 to 6 answer of any bytes.
 mod block;
 
+pub use block::addend;
 pub use block::checksum;
 use block::is_sealed;
 ghost use mathlib.Core.Path.{_≡_};
 ghost use Prim.Native.Nat.{ℕ, _+_, _*_, _<_, _≤_};
 ghost use lib.ListN.{length};
 ghost use Rattle.format.specs.Search.{firstFailing};
-ghost use Rattle.format.specs.Block.{isSealed};
-ghost use Rattle.format.specs.File.{blockOf, placeStart, blocksFor, lengthRule, lettersRule, headerOf, inRange, headerRule, placeRule, refusal, checkFile};
+ghost use Rattle.format.specs.File.{placeStart, blocksFor, lengthRule, checkRule, lettersRule, headerOf, inRange, headerRule, placeRule, refusal, checkFile};
 
 // A refusal, by document 01's number and detail.
 pub struct Refusal {
@@ -98,15 +98,16 @@ fn header_holds(file: &[u8]) -> bool
 }
 
 // The first of a file's blocks whose check differs, or their number where none does.
-fn first_wrong(file: &[u8], blocks: usize) -> usize
+fn first_wrong(file: &[u8], header: Header, blocks: usize) -> usize
     requires { ⌜ (blocks ≤ 5) × (512 * blocks ≤ length (now file)) ⌝ }
-    ensures { λ r. ⌜ r ≡ firstFailing (λ j. isSealed (blockOf (now (file .entry)) j)) blocks ⌝ }
+    ensures { λ r. ⌜ r ≡ firstFailing (checkRule (now (file .entry)) header) blocks ⌝ }
 {
     let mut j: usize = 0;
     while j < blocks {
         let start = 512 * j;
         let end = start + 512;
-        if !is_sealed(&file[start..end]) {
+        let added = addend(header.edition, j as u8);
+        if !is_sealed(added, &file[start..end]) {
             return j;
         }
         j += 1;
@@ -152,7 +153,8 @@ pub fn check_file(file: &[u8]) -> Checked
         return refuse(1, 0);
     }
     let blocks = len / 512;
-    let wrong = first_wrong(file, blocks);
+    let header = header_of(file);
+    let wrong = first_wrong(file, header, blocks);
     if wrong < blocks {
         return refuse(2, wrong as u32);
     }
@@ -162,7 +164,6 @@ pub fn check_file(file: &[u8]) -> Checked
     if !header_holds(file) {
         return refuse(4, 0);
     }
-    let header = header_of(file);
     if blocks != blocks_for(header.boxes) {
         return refuse(5, 0);
     }

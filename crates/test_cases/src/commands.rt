@@ -22,6 +22,10 @@ const BOX: u32 = 0x626f;
 
 const MEND: u32 = 0x6d65;
 
+const SEAL: u32 = 0x7365;
+
+const SWAP: u32 = 0x7377;
+
 const LOAD: u32 = 0x6c6f;
 
 const BEGIN: u32 = 0x6265;
@@ -68,6 +72,8 @@ fn edit(line: &[u8], file: &mut File) -> bool {
         PUT => files::put(file, first as usize, low(second)),
         BOX => files::put_box(file, first, box_bytes(line)),
         MEND => files::mend(file),
+        SEAL => files::seal(file, low(first)),
+        SWAP => files::exchange(file, first, second),
         _ => {
             return false;
         }

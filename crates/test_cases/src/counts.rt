@@ -34,6 +34,9 @@ const NAMED: u32 = 48;
 // Files loaded, by edition.
 const EDITION: u32 = 51;
 
+// Loads of files with two blocks exchanged, by edition: loaded, refused by 2, and by 6.
+const EXCHANGED: u32 = 53;
+
 // Where a call is counted that told this; one that was just done is counted at `done`.
 pub fn place(t: Encoded, done: u32) -> u32 {
     let kind = t.kind;
@@ -68,4 +71,16 @@ pub fn edition(t: Encoded, edition: u32) -> u32 {
         return 0;
     }
     if edition == 1 { EDITION } else { EDITION + 1 }
+}
+
+// Where a load of a file with two blocks exchanged is counted; nowhere that is printed, where a run was under way.
+pub fn exchanged(t: Encoded, edition: u32) -> u32 {
+    let start = EXCHANGED + 3 * (1 - edition % 2);
+    if t.kind == kinds::CHART {
+        return start;
+    }
+    if t.first == 2 {
+        return start + 1;
+    }
+    if t.first == 6 { start + 2 } else { 0 }
 }

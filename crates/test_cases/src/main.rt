@@ -25,9 +25,13 @@ fn random_case(pair: Pair, state: &mut u64, file: &mut File) -> Pair {
     if !pair.same {
         return pair;
     }
-    let length = damage::draw(state, file);
+    let drawn = damage::draw(state, file);
     let now = if one_in(state, 8) { pair.renew() } else { pair };
-    random_calls::list(now, state, front(file, length))
+    random_calls::list(
+        now.of_file(drawn.exchanged),
+        state,
+        front(file, drawn.length),
+    )
 }
 
 fn random_cases(file: &mut File) -> Pair {
@@ -39,11 +43,11 @@ fn random_cases(file: &mut File) -> Pair {
     p
 }
 
-// The cases of standard input, which has room for fewer than 16,384 bytes.
+// The cases of standard input, which has room for fewer than 32,768 bytes.
 fn fixed_cases(file: &mut File) -> bool {
-    let mut text = [0u8; 16384];
+    let mut text = [0u8; 32768];
     let length = io::read_full(0, &mut text);
-    if length == 16384 {
+    if length == 32768 {
         io::write_all(1, b"standard input is too long\n");
         return false;
     }

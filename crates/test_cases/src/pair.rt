@@ -12,7 +12,7 @@ use told::kinds;
 
 // `told` is what the last call told, and `whole` the answer of a copy of the model that was advanced at once by the whole limit of the last
 // run. `inputs` and `boxes` are those of the chart held, `mode` and `limit` those of the last run. `same` becomes false at the first difference;
-// `case` and `calls` say where that is.
+// `case` and `calls` say where that is. `exchanged` says that the case's file is a chart's with two blocks exchanged.
 pub struct Pair {
     runner: Runner,
     model: Model,
@@ -24,6 +24,7 @@ pub struct Pair {
     mode: u32,
     case: u32,
     calls: u32,
+    exchanged: bool,
     pub same: bool,
     pub counts: [u64; 64],
 }
@@ -41,6 +42,7 @@ pub fn new() -> Pair {
         mode: 0,
         case: 0,
         calls: 0,
+        exchanged: false,
         same: true,
         counts: [0; 64],
     }
@@ -89,6 +91,12 @@ impl Pair {
     pub fn at_case(mut self, case: u32) -> Pair {
         self.case = case;
         self.calls = 0;
+        self
+    }
+
+    // The next file.
+    pub fn of_file(mut self, exchanged: bool) -> Pair {
+        self.exchanged = exchanged;
         self
     }
 
@@ -141,7 +149,12 @@ impl Pair {
             self.inputs = (t.first % 256) as u32;
             self.boxes = t.second;
         }
-        self.count(counts::edition(t, edition))
+        let exchanged = self.exchanged;
+        let pair = self.count(counts::edition(t, edition));
+        if exchanged {
+            return pair.count(counts::exchanged(t, edition));
+        }
+        pair
     }
 
     pub fn begin(self, mode: u32, inputs: &[u32], allowed: u32, limit: u32) -> Pair {

@@ -99,8 +99,10 @@ boxes: shown %, not shown %
 files written back: %
 notices that name: no input %, one %, more %
 files loaded: edition 1 %, edition 2 %
+two blocks exchanged in edition 1: loaded %, refused by 2 %, by 6 %
+two blocks exchanged in edition 2: loaded %, refused by 2 %, by 6 %
 ",
-        &all[25..53],
+        &all[25..59],
     );
     refusals(counts);
 }

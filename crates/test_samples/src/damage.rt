@@ -1,4 +1,4 @@
-// Damage to a chart's file: one change of one kind, or two. Each answers the length that the file then has.
+// Damage to a chart's file: one change of one kind, or two, or two blocks exchanged.
 use crate::charts;
 use crate::charts::Shape;
 use crate::files;
@@ -100,6 +100,12 @@ fn check_byte(state: &mut u64, file: &mut File) {
     change(state, file, block + 510 + at);
 }
 
+// The checks of the other edition.
+fn other_checks(file: &mut File) {
+    let edition = if get(file, 4) == 2 { 1 } else { 2 };
+    files::seal(file, edition);
+}
+
 // A length that may be that of no chart, or of another one.
 fn other_length(state: &mut u64, length: usize) -> usize {
     let kind = below(state, 8);
@@ -112,8 +118,9 @@ fn other_length(state: &mut u64, length: usize) -> usize {
     }
 }
 
+// Answers the length that the file then has.
 fn once(state: &mut u64, file: &mut File, shape: Shape, length: usize) -> usize {
-    let kind = below(state, 13);
+    let kind = below(state, 14);
     match kind {
         0 | 1 => any_byte(state, file, length),
         2 | 3 => header_byte(state, file, shape),
@@ -122,6 +129,7 @@ fn once(state: &mut u64, file: &mut File, shape: Shape, length: usize) -> usize 
         8 => byte_past_boxes(state, file, shape),
         9 => check_byte(state, file),
         10 => edition_byte(state, file),
+        11 => other_checks(file),
         _ => {
             return other_length(state, length);
         }
@@ -129,21 +137,50 @@ fn once(state: &mut u64, file: &mut File, shape: Shape, length: usize) -> usize 
     length
 }
 
-// A change to the file of a chart, one time in four two.
-fn make(state: &mut u64, file: &mut File, shape: Shape) -> usize {
-    let length = files::length_of(shape.boxes);
-    let changed = once(state, file, shape, length);
-    if one_in(state, 4) {
-        return once(state, file, shape, changed);
+// Two box blocks exchanged, where the file has two.
+fn exchange_blocks(state: &mut u64, file: &mut File, shape: Shape) -> bool {
+    let last = (shape.boxes % 256 + 50) / 51;
+    if last < 2 {
+        return false;
     }
-    changed
+    let j = 2 + below(state, last - 1);
+    let i = 1 + below(state, j - 1);
+    files::exchange(file, i, j);
+    true
 }
 
-// The file of a random chart, one time in three damaged; answers its length.
-pub fn draw(state: &mut u64, file: &mut File) -> usize {
+// A file that was drawn: its length, and whether it is a chart's with two box blocks exchanged and nothing else changed.
+pub struct Drawn {
+    pub length: usize,
+    pub exchanged: bool,
+}
+
+fn of_length(length: usize) -> Drawn {
+    Drawn {
+        length,
+        exchanged: false,
+    }
+}
+
+// A change to the file of a chart, one time in four two; or two blocks exchanged.
+fn make(state: &mut u64, file: &mut File, shape: Shape) -> Drawn {
+    let length = files::length_of(shape.boxes);
+    if one_in(state, 8) {
+        let exchanged = exchange_blocks(state, file, shape);
+        return Drawn { length, exchanged };
+    }
+    let changed = once(state, file, shape, length);
+    if one_in(state, 4) {
+        return of_length(once(state, file, shape, changed));
+    }
+    of_length(changed)
+}
+
+// The file of a random chart, one time in three damaged.
+pub fn draw(state: &mut u64, file: &mut File) -> Drawn {
     let shape = charts::make(state, file);
     if one_in(state, 3) {
         return make(state, file, shape);
     }
-    files::length_of(shape.boxes)
+    of_length(files::length_of(shape.boxes))
 }

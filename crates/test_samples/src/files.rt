@@ -84,9 +84,9 @@ pub fn clear(file: &mut File) {
     *file = [0; 3072];
 }
 
-// The check of the block that starts at a place. From the last byte down, a byte that is added to `some` is in it for each of the
+// The weighted sum of the block that starts at a place. From the last byte down, a byte that is added to `some` is in it for each of the
 // (position + 1) turns that are left, so `all` gets it so many times.
-fn checksum(file: &File, start: usize) -> u32 {
+fn weighted(file: &File, start: usize) -> u32 {
     let mut some: u32 = 0;
     let mut all: u32 = 0;
     let mut i: usize = 510;
@@ -96,27 +96,42 @@ fn checksum(file: &File, start: usize) -> u32 {
         some = std::num::wrapping_add_u32(some, wide(get(file, at)));
         all = std::num::wrapping_add_u32(all, some);
     }
-    all % 65536
+    all
 }
 
-fn mend_block(file: &mut File, start: usize) {
-    let check = checksum(file, start);
-    put(file, std::num::wrapping_add_usize(start, 510), low(check));
-    put(
-        file,
-        std::num::wrapping_add_usize(start, 511),
-        low(check / 256),
-    );
+// The check that a block has in a file of an edition.
+fn seal_block(file: &mut File, edition: u8, b: u32) {
+    let number = b % 6;
+    let start = 512 * (number as usize);
+    let added = if edition == 2 { 511 * number } else { 0 };
+    let check = std::num::wrapping_add_u32(weighted(file, start), added);
+    put(file, start + 510, low(check));
+    put(file, start + 511, low(check / 256));
+}
+
+// The checks that the blocks have in a file of an edition, whatever byte 4 is.
+pub fn seal(file: &mut File, edition: u8) {
+    for b in 0..6u32 {
+        seal_block(file, edition, b);
+    }
 }
 
 // Every block's check made right.
 pub fn mend(file: &mut File) {
-    mend_block(file, 0);
-    mend_block(file, 512);
-    mend_block(file, 1024);
-    mend_block(file, 1536);
-    mend_block(file, 2048);
-    mend_block(file, 2560);
+    let edition = file[4];
+    seal(file, edition);
+}
+
+// Two blocks exchanged, with their checks.
+pub fn exchange(file: &mut File, i: u32, j: u32) {
+    let one = 512 * ((i % 6) as usize);
+    let two = 512 * ((j % 6) as usize);
+    for at in 0..512 {
+        let byte = get(file, one + at);
+        let other = get(file, two + at);
+        put(file, one + at, other);
+        put(file, two + at, byte);
+    }
 }
 
 // Chart C's box: 16 is copied to 16, next box 0.

@@ -44,11 +44,18 @@ pub fn constant(file: &[u8], number: u32) -> u32 {
     low + 65536 * high
 }
 
-// The sum over positions 0 to 509 of (position + 1) times byte, modulo 65,536. From the last byte
-// down, `tail` is added at each position, so the byte at position p is added p + 1 times.
+// What a block's check takes for one more byte, after byte 509: the block's own number where byte 4 of
+// block 0 is 2, whatever the letters are, else 0.
+fn own_number(file: &[u8], block: u32) -> u32 {
+    if byte(file, 4) == 2 { block } else { 0 }
+}
+
+// The sum over positions 0 to 510 of (position + 1) times byte, modulo 65,536, with `own_number` for
+// the byte at 510: it adds 511 times the block's number, or nothing. From the last byte down, `tail`
+// is added at each position, so the byte at position p is added p + 1 times.
 fn weighted(file: &[u8], block: u32) -> u32 {
-    let mut tail: u32 = 0;
-    let mut total: u32 = 0;
+    let mut tail = own_number(file, block);
+    let mut total = tail;
     let mut left: u32 = 510;
     while 0 < left {
         left -= 1;

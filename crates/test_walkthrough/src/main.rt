@@ -86,9 +86,9 @@ fn part(bytes: &[u8], from: usize, to: usize) -> &[u8] {
     &bytes[0..0]
 }
 
-// The check of a block: as it is summed, and as the block holds it.
+// The check of a block in edition 1: as it is summed, and as the block holds it.
 fn print_check(block: &[u8]) {
-    number(b"  check ", format::checksum(block) as u64);
+    number(b"  check ", format::checksum(0, block) as u64);
     row(b", bytes 510 and 511:", part(block, 510, 512));
 }
 

@@ -30,7 +30,7 @@ same-length c = search needs
 returns : tie.Need-returns
 returns c =
     let a = c .before .before .before .before .before .before .before .args in
-    sealed-part (now (a .body)) (now (a .part)) _ (c .checksum .result) (search needs) (search needs)
+    sealed-part (a .added) (now (a .body)) (now (a .part)) _ (c .checksum .result) (search needs) (search needs)
     (copied (now (a .body)) (now (a .part)) _ 510 (c .before .before .before .copy .ensures .1) (search needs)) (c .checksum .ensures)
 
 pub write-block-spec : {M : Type 1} → statement M

@@ -8,13 +8,11 @@ use lib.Seq.{drop-drop}
 use borrow.Author.Needs.{needs}
 use borrow.Rule.Slice.PartMut.{putMid}
 use denote.Ref.{now}
-use Rattle.format.specs.Block.{seal}
 use Rattle.format.specs.File.{blocksFor}
-use Rattle.format.specs.declared.Header.{Header}
-use Rattle.chart.specs.Chart.{joined, bodyOf, fileOf}
+use Rattle.chart.specs.Chart.{joined, sealedBlock, fileOf}
 use Rattle.chart.specs.WriteBack.{withFile}
-use Rattle.chart.proofs.Joined.{Sized, joined-rest, put-piece}
-use Rattle.chart.proofs.Blocks.{length-seal, length-body}
+use Rattle.chart.proofs.Joined.{joined-rest, put-piece}
+use Rattle.chart.proofs.Blocks.{blocks-sized}
 use Rattle.chart.proofs.write_file.Statement.{statement}
 use Rattle.chart.proofs.write_file.Tie as tie
 
@@ -23,14 +21,10 @@ Inv-loop header table buf₀ blocks j₀ buf j =
     (blocks ≡ blocksFor (header .boxes))
     × (j ≤ blocks)
     × (length buf ≡ length buf₀)
-    × (buf ≡ joined (λ i. seal (bodyOf header table i)) j ++ drop (512 * j) buf₀)
+    × (buf ≡ joined (sealedBlock header table) j ++ drop (512 * j) buf₀)
 
 abbrev μ-loop : tie.MeasureT-loop
 μ-loop header table buf₀ blocks j₀ buf j = blocks - j
-
--- The first five blocks are 512 bytes each.
-sized : (h : Header) (table : List ℕ) (count : ℕ) → length table ≡ 2040 → count ≤ 5 → Sized (λ i. seal (bodyOf h table i)) 512 count
-sized h table count l q i p = length-seal _ (length-body h table i l (omega arith))
 
 blocks-for-requires : tie.Need-blocks-for-requires Inv-loop μ-loop
 blocks-for-requires c κs = search needs
@@ -65,8 +59,8 @@ loop-again c =
     let a = c .before .before .before .before .before .before .before .before .before .args in
     let l = c .before .before .before .before .before .loop in
     let buf = now (a .buf) in
-    let piece : ℕ → List ℕ = λ i. seal (bodyOf (a .header) (now (a .table)) i) in
-    let size = sized (a .header) (now (a .table)) (l .j + 1) (omega arith) (omega arith) in
+    let piece : ℕ → List ℕ = sealedBlock (a .header) (now (a .table)) in
+    let size = blocks-sized (a .header) (now (a .table)) (l .j + 1) (omega arith) (omega arith) in
     let left = length (l .buf) - 512 * l .j in
     let up : 512 * l .j + 512 ≡ 512 * (l .j + 1) = omega arith in
     let next = ap (putMid (512 * l .j) left (l .buf)) (c .before .before .write-nth .ensures)
@@ -83,7 +77,7 @@ returns c =
     let a = c .before .before .before .before .before .args in
     let l = c .before .loop in
     let all : l .j ≡ blocksFor (a .header .boxes) = omega arith in
-    l .inv .3 ∙ ap (λ (n : ℕ). joined (λ i. seal (bodyOf (a .header) (now (a .table)) i)) n ++ drop (512 * n) (now (a .buf))) all
+    l .inv .3 ∙ ap (λ (n : ℕ). joined (sealedBlock (a .header) (now (a .table))) n ++ drop (512 * n) (now (a .buf))) all
 
 pub write-file-spec : {M : Type 1} → statement M
 write-file-spec =

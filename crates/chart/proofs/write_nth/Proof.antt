@@ -1,15 +1,18 @@
--- `write_nth` writes the header as block 0, and as block j the 51 boxes that the definition names.
-use Prim.Native.Nat.{ℕ, _*_, _-_}
-use mathlib.Core.Path.{ap, _∙_}
-use mathlib.Core.List.{List, _++_}
-use lib.ListN.{drop}
+-- `write_nth` writes the header as block 0, and as block j the 51 boxes that the definition names, sealed by what block j adds.
+use Prim.Native.Nat.{_*_, _-_}
+use mathlib.Core.Path.{_∙_}
 use denote.Ref.{now}
-use Rattle.format.specs.Block.{seal}
 use Rattle.format.proofs.Places.{part-to}
-use Rattle.chart.proofs.Blocks.{body-first, body-later}
+use Rattle.chart.proofs.Blocks.{body-first, body-later, sealed-is}
 use borrow.Author.Needs.{needs}
 use Rattle.chart.proofs.write_nth.Statement.{statement}
 use Rattle.chart.proofs.write_nth.Tie as tie
+
+cast-addend : tie.Need-cast-addend
+cast-addend c = search needs
+
+addend-requires : tie.Need-addend-requires
+addend-requires c κs = search needs
 
 header-body-requires : tie.Need-header-body-requires
 header-body-requires c κs = search needs
@@ -25,10 +28,10 @@ same-length c = search needs
 
 returns : tie.Need-returns
 returns c =
-    let a = c .before .before .before .before .before .before .before .before .before .args in
-    c .before .before .write-block .ensures
-    ∙ ap (λ (b : List ℕ). seal b ++ drop 512 (now (a .part)))
-    (c .before .before .before .before .before .header-body .ensures ∙ body-first (a .header) (now (a .table)) (a .j) (c .before .before .before .before .before .before .if1 .taken))
+    let a = c .before .before .before .before .before .before .before .before .before .before .args in
+    let first = c .before .before .before .before .before .before in
+    let body = c .before .before .before .before .before .header-body .ensures ∙ body-first (a .header) (now (a .table)) (a .j) (first .if1 .taken) in
+    c .before .before .write-block .ensures ∙ sealed-is (a .header) (now (a .table)) (a .j) _ _ _ (first .before .addend .ensures) body
 
 sub-start : tie.Need-sub-start
 sub-start c = search needs
@@ -56,15 +59,17 @@ same-length-2 c = search needs
 
 returns-2 : tie.Need-returns-2
 returns-2 c =
-    let a = c .before .before .before .before .before .before .before .before .args in
-    c .before .before .write-block2 .ensures
-    ∙ ap (λ (b : List ℕ). seal b ++ drop 512 (now (a .part)))
-    (part-to (now (a .table)) (510 * (a .j - 1)) 510 ∙ body-later (a .header) (now (a .table)) (a .j) (c .before .before .before .before .before .if1 .left))
+    let a = c .before .before .before .before .before .before .before .before .before .args in
+    let later = c .before .before .before .before .before in
+    let body = part-to (now (a .table)) (510 * (a .j - 1)) 510 ∙ body-later (a .header) (now (a .table)) (a .j) (later .if1 .left) in
+    c .before .before .write-block2 .ensures ∙ sealed-is (a .header) (now (a .table)) (a .j) _ _ _ (later .before .addend .ensures) body
 
 pub write-nth-spec : {M : Type 1} → statement M
 write-nth-spec =
     tie.close
     (tie.spec
+    cast-addend
+    addend-requires
     header-body-requires
     slice-aggregate-write-block
     write-block-requires

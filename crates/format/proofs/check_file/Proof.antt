@@ -7,7 +7,7 @@ use native.Mathlib.Omega.{arith}
 use lib.ListN.{length}
 use denote.Ref.{now}
 use borrow.Author.Tests.{not-true, not-false}
-use Rattle.format.specs.File.{blocksFor, headerOf, lengthRule, lettersRule, placeRule, refusal}
+use Rattle.format.specs.File.{blocksFor, headerOf, lengthRule, checkRule, lettersRule, placeRule, refusal}
 use Rattle.format.specs.Search.{firstFailing}
 use Rattle.format.specs.declared.Header.{Header}
 use Rattle.format.specs.declared.Checked.the-variants.{Accepted, Refused}
@@ -23,16 +23,21 @@ one c = sym (c .before .length-holds .ensures) ∙ not-false _ (c .if1 .left)
 whole : (c : tie.Else1) → Blocks (length (now (c .before .before .before .args .file)))
 whole c = blocks-of _ (one c)
 
-two : (c : tie.Else2) → let f = now (c .before .before .before .before .before .args .file) in blocks f ≤ wrong f
-two c = omega (arith, c .before .first-wrong .ensures, c .if2 .left)
+wrong-is : (c : tie.After-first-wrong) → c .first-wrong .result ≡ wrong (now (c .before .before .before .before .before .args .file))
+wrong-is c =
+    let f = now (c .before .before .before .before .before .args .file) in
+    c .first-wrong .ensures ∙ ap (λ (h : Header). firstFailing (checkRule f h) (blocks f)) (c .before .header-of .ensures)
 
-three : (c : tie.Else3) → lettersRule (now (c .before .before .before .before .before .before .before .args .file)) ≡ true
+two : (c : tie.Else2) → let f = now (c .before .before .before .before .before .before .args .file) in blocks f ≤ wrong f
+two c = omega (arith, wrong-is (c .before), c .if2 .left)
+
+three : (c : tie.Else3) → lettersRule (now (c .before .before .before .before .before .before .before .before .args .file)) ≡ true
 three c = sym (c .before .letters-hold .ensures) ∙ not-false _ (c .if3 .left)
 
-past : (c : tie.Else4) → Past (now (c .before .before .before .before .before .before .before .before .before .args .file))
+past : (c : tie.Else4) → Past (now (c .before .before .before .before .before .before .before .before .before .before .args .file))
 past c =
     record {
-      one = one (c .before .before .before .before .before .before);
+      one = one (c .before .before .before .before .before .before .before);
       two = two (c .before .before .before .before);
       three = three (c .before .before);
       four = sym (c .before .header-holds .ensures) ∙ not-false _ (c .if4 .left);
@@ -40,7 +45,7 @@ past c =
 
 -- The blocks that the size is held to.
 size-is : (c : tie.After-blocks-for) → c .blocks-for .result ≡ blocksFor (headerOf (now (c .before .before .before .before .before .before .before .before .before .before .before .args .file)) .boxes)
-size-is c = c .blocks-for .ensures .0 ∙ ap (λ (h : Header). blocksFor (h .boxes)) (c .before .header-of .ensures)
+size-is c = c .blocks-for .ensures .0 ∙ ap (λ (h : Header). blocksFor (h .boxes)) (c .before .before .before .before .before .before .before .header-of .ensures)
 
 five : (c : tie.Else5) → let f = now (c .before .before .before .before .before .before .before .before .before .before .before .before .args .file) in blocks f ≡ blocksFor (headerOf f .boxes)
 five c = c .if5 .left ∙ size-is (c .before)
@@ -50,7 +55,7 @@ broken-is : (c : tie.After-first-broken)
     c .first-broken .result ≡ broken f
 broken-is c =
     let f = now (c .before .before .before .before .before .before .before .before .before .before .before .before .before .args .file) in
-    c .first-broken .ensures ∙ ap (λ (h : Header). firstFailing (placeRule f h) (places f)) (c .before .before .before .header-of .ensures)
+    c .first-broken .ensures ∙ ap (λ (h : Header). firstFailing (placeRule f h) (places f)) (c .before .before .before .before .before .before .before .before .before .header-of .ensures)
 
 length-holds-requires : tie.Need-length-holds-requires
 length-holds-requires c κs = search needs
@@ -61,11 +66,14 @@ refuse-requires c κs = search needs
 returns : tie.Need-returns
 returns c = c .refuse .ensures ∙ tells-length _ (sym (c .before .before .length-holds .ensures) ∙ not-true _ (c .before .if1 .taken))
 
+header-of-requires : tie.Need-header-of-requires
+header-of-requires c κs = let b = whole c in search needs
+
 first-wrong-requires : tie.Need-first-wrong-requires
-first-wrong-requires c κs = let b = whole c in search needs
+first-wrong-requires c κs = let b = whole (c .before) in search needs
 
 cast-refuse : tie.Need-cast-refuse
-cast-refuse c = let b = whole (c .before .before) in omega arith
+cast-refuse c = let b = whole (c .before .before .before) in omega arith
 
 refuse-requires-2 : tie.Need-refuse-requires-2
 refuse-requires-2 c κs = search needs
@@ -73,11 +81,11 @@ refuse-requires-2 c κs = search needs
 returns-2 : tie.Need-returns-2
 returns-2 c =
     c .refuse2 .ensures
-    ∙ ap (λ (n : ℕ). Refused (refusal 2 n)) (c .before .before .first-wrong .ensures)
-    ∙ tells-check _ (one (c .before .before .before)) (omega (arith, c .before .before .first-wrong .ensures, c .before .if2 .taken))
+    ∙ ap (λ (n : ℕ). Refused (refusal 2 n)) (wrong-is (c .before .before))
+    ∙ tells-check _ (one (c .before .before .before .before)) (omega (arith, wrong-is (c .before .before), c .before .if2 .taken))
 
 letters-hold-requires : tie.Need-letters-hold-requires
-letters-hold-requires c κs = let b = whole (c .before .before) in search needs
+letters-hold-requires c κs = let b = whole (c .before .before .before) in search needs
 
 refuse-requires-3 : tie.Need-refuse-requires-3
 refuse-requires-3 c κs = search needs
@@ -85,10 +93,10 @@ refuse-requires-3 c κs = search needs
 returns-3 : tie.Need-returns-3
 returns-3 c =
     let wrong = sym (c .before .before .letters-hold .ensures) ∙ not-true _ (c .before .if3 .taken) in
-    c .refuse3 .ensures ∙ tells-letters _ (one (c .before .before .before .before .before)) (two (c .before .before .before)) wrong
+    c .refuse3 .ensures ∙ tells-letters _ (one (c .before .before .before .before .before .before)) (two (c .before .before .before)) wrong
 
 header-holds-requires : tie.Need-header-holds-requires
-header-holds-requires c κs = let b = whole (c .before .before .before .before) in search needs
+header-holds-requires c κs = let b = whole (c .before .before .before .before .before) in search needs
 
 refuse-requires-4 : tie.Need-refuse-requires-4
 refuse-requires-4 c κs = search needs
@@ -97,10 +105,7 @@ returns-4 : tie.Need-returns-4
 returns-4 c =
     let else3 = c .before .before .before in
     let wrong = sym (c .before .before .header-holds .ensures) ∙ not-true _ (c .before .if4 .taken) in
-    c .refuse4 .ensures ∙ tells-header _ (one (else3 .before .before .before .before)) (two (else3 .before .before)) (three else3) wrong
-
-header-of-requires : tie.Need-header-of-requires
-header-of-requires c κs = let b = whole (c .before .before .before .before .before .before) in search needs
+    c .refuse4 .ensures ∙ tells-header _ (one (else3 .before .before .before .before .before)) (two (else3 .before .before)) (three else3) wrong
 
 blocks-for-requires : tie.Need-blocks-for-requires
 blocks-for-requires c κs = search needs
@@ -109,7 +114,7 @@ refuse-requires-5 : tie.Need-refuse-requires-5
 refuse-requires-5 c κs = search needs
 
 returns-5 : tie.Need-returns-5
-returns-5 c = c .refuse5 .ensures ∙ tells-size _ (past (c .before .before .before .before)) (λ e. c .before .if5 .taken (e ∙ sym (size-is (c .before .before))))
+returns-5 c = c .refuse5 .ensures ∙ tells-size _ (past (c .before .before .before)) (λ e. c .before .if5 .taken (e ∙ sym (size-is (c .before .before))))
 
 sub-places : tie.Need-sub-places
 sub-places c = search needs
@@ -130,13 +135,13 @@ returns-6 : tie.Need-returns-6
 returns-6 c =
     c .refuse6 .ensures
     ∙ ap (λ (n : ℕ). Refused (refusal 6 n)) (broken-is (c .before .before))
-    ∙ tells-place _ (past (c .before .before .before .before .before .before)) (five (c .before .before .before))
+    ∙ tells-place _ (past (c .before .before .before .before .before)) (five (c .before .before .before))
     (omega (arith, broken-is (c .before .before), c .before .if6 .taken))
 
 returns-7 : tie.Need-returns-7
 returns-7 c =
-    ap Accepted (c .before .before .before .before .header-of .ensures)
-    ∙ tells-chart _ (past (c .before .before .before .before .before)) (five (c .before .before)) (omega (arith, broken-is (c .before), c .if6 .left))
+    ap Accepted (c .before .before .before .before .before .before .before .before .before .before .header-of .ensures)
+    ∙ tells-chart _ (past (c .before .before .before .before)) (five (c .before .before)) (omega (arith, broken-is (c .before), c .if6 .left))
 
 pub check-file-spec : {M : Type 1} → statement M
 check-file-spec =
@@ -145,6 +150,7 @@ check-file-spec =
     length-holds-requires
     refuse-requires
     returns
+    header-of-requires
     first-wrong-requires
     cast-refuse
     refuse-requires-2
@@ -155,7 +161,6 @@ check-file-spec =
     header-holds-requires
     refuse-requires-4
     returns-4
-    header-of-requires
     blocks-for-requires
     refuse-requires-5
     returns-5

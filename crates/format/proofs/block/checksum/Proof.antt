@@ -1,4 +1,4 @@
--- `checksum` goes up the bytes: the sum so far and the terms still to come are the whole sum, modulo 65,536.
+-- `checksum` goes up the bytes: the sum so far, which starts at what is added, and the terms still to come are the whole sum, modulo 65,536.
 use Prim.Native.Nat.{_+_, _-_, _%_, _≤_, _<_, min}
 use mathlib.Core.Path.{_≡_}
 use native.Mathlib.Omega.{arith}
@@ -11,22 +11,25 @@ use Rattle.format.proofs.block.checksum.Statement.{statement}
 use Rattle.format.proofs.block.checksum.Tie as tie
 
 abbrev Inv-loop : tie.InvT-loop
-Inv-loop block end sum₀ weight₀ i₀ sum weight i =
+Inv-loop added block end sum₀ weight₀ i₀ sum weight i =
     (end ≡ min 510 (length block))
     × (i ≤ end)
     × (weight ≡ i + 1)
     × (sum < 65536)
-    × ((sum + weighted i (drop i (take 510 block))) % 65536 ≡ checksum block)
+    × ((sum + weighted i (drop i (take 510 block))) % 65536 ≡ checksum added block)
 
 abbrev μ-loop : tie.MeasureT-loop
-μ-loop block end sum₀ weight₀ i₀ sum weight i = end - i
+μ-loop added block end sum₀ weight₀ i₀ sum weight i = end - i
 
 at-most-510-requires : tie.Need-at-most-510-requires Inv-loop μ-loop
 at-most-510-requires c κs = search needs
 
+cast-sum : tie.Need-cast-sum Inv-loop μ-loop
+cast-sum c = search needs
+
 loop-holds : tie.Need-loop-holds Inv-loop μ-loop
 unfolding checksum
-loop-holds c = search needs
+loop-holds c = (search needs, omega arith, omega arith, omega arith, omega arith)
 
 shared-slice-read-to-u32 : tie.Need-shared-slice-read-to-u32 Inv-loop μ-loop
 shared-slice-read-to-u32 c = search needs
@@ -58,7 +61,7 @@ loop-less c = search needs
 loop-again : tie.Need-loop-again Inv-loop μ-loop
 loop-again c =
     let l = c .before .before .before .before .loop in
-    let more = sum-more (now (c .before .before .before .before .before .before .before .args .block)) (l .i) (l .sum) (l .inv .4) in
+    let more = sum-more (c .before .before .before .before .before .before .before .args .added) (now (c .before .before .before .before .before .before .before .args .block)) (l .i) (l .sum) (l .inv .4) in
     let byte = c .before .to-u32 in
     let sum = c .wrapping-add-u16 in (
       omega arith,
@@ -74,7 +77,7 @@ cast-result c = search needs
 returns : tie.Need-returns Inv-loop μ-loop
 returns c =
     let l = c .before .loop in
-    sum-end (now (c .before .before .before .before .args .block)) (l .i) (l .sum) (l .inv .4) (omega arith) (l .inv .3)
+    sum-end (c .before .before .before .before .args .added) (now (c .before .before .before .before .args .block)) (l .i) (l .sum) (l .inv .4) (omega arith) (l .inv .3)
 
 pub checksum-spec : {M : Type 1} → statement M
 checksum-spec =
@@ -83,6 +86,7 @@ checksum-spec =
     Inv-loop
     μ-loop
     at-most-510-requires
+    cast-sum
     loop-holds
     shared-slice-read-to-u32
     to-u32-requires

@@ -10,6 +10,9 @@ Inv-loop file block tail₀ total₀ left₀ tail total left = Unit {0}
 abbrev μ-loop : tie.MeasureT-loop
 μ-loop file block tail₀ total₀ left₀ tail total left = left
 
+own-number-requires : tie.Need-own-number-requires Inv-loop μ-loop
+own-number-requires c κs = search needs
+
 loop-holds : tie.Need-loop-holds Inv-loop μ-loop
 loop-holds c = search needs
 
@@ -40,6 +43,7 @@ weighted-spec =
     (tie.spec
     Inv-loop
     μ-loop
+    own-number-requires
     loop-holds
     sub-left
     within-requires

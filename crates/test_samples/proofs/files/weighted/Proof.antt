@@ -1,8 +1,8 @@
--- `test_samples::files::checksum` is safe and ends, by the bytes that are left.
+-- `test_samples::files::weighted` is safe and ends, by the bytes that are left.
 use Prim.Native.Nat.{_≤_}
 use borrow.Author.Needs.{needs}
-use Rattle.test_samples.proofs.files.checksum.Statement.{statement}
-use Rattle.test_samples.proofs.files.checksum.Tie as tie
+use Rattle.test_samples.proofs.files.weighted.Statement.{statement}
+use Rattle.test_samples.proofs.files.weighted.Tie as tie
 
 abbrev Inv-loop : tie.InvT-loop
 Inv-loop file start some₀ all₀ i₀ some all i = i ≤ 510
@@ -40,8 +40,8 @@ loop-again c = search needs
 returns : tie.Need-returns Inv-loop μ-loop
 returns c = search needs
 
-pub checksum-spec : {M : Type 1} → statement M
-checksum-spec =
+pub weighted-spec : {M : Type 1} → statement M
+weighted-spec =
     tie.close
     (tie.spec
     Inv-loop
