@@ -54,14 +54,14 @@ pub struct Runner {
     state: State,
 }
 
-/// The check of block j: in edition 2 it adds 511 times j.
-fn check_of(edition: u8, j: u32, block: &[u8]) -> u32 {
+/// The check of block j, modulo 65,536 by its type: in edition 2 it adds 511 times j.
+fn check_of(edition: u8, j: u16, block: &[u8]) -> u16 {
     let added = if edition == 2 { 511 * j } else { 0 };
-    (added + block[..510].iter().zip(1u32..).map(|(b, i)| i * u32::from(*b)).sum::<u32>()) % 65536
+    block[..510].iter().zip(1u16..).fold(added, |sum, (b, i)| sum.wrapping_add(i.wrapping_mul(u16::from(*b))))
 }
 
-fn is_sealed(edition: u8, j: u32, block: &[u8]) -> bool {
-    check_of(edition, j, block) == u32::from(block[510]) + 256 * u32::from(block[511])
+fn is_sealed(edition: u8, j: u16, block: &[u8]) -> bool {
+    check_of(edition, j, block).to_le_bytes() == block[510..512]
 }
 
 /// Whether an operation reads left and whether it reads right.
@@ -109,7 +109,7 @@ pub fn check(file: &[u8]) -> Result<Header, (u32, u32)> {
     }
     let header = Header { edition: file[4], inputs: file[5], boxes: file[6], first: file[7] };
     if let Some((j, _)) = (0..).zip(file.chunks(512)).find(|(j, block)| !is_sealed(header.edition, *j, block)) {
-        return Err((2, j));
+        return Err((2, u32::from(j)));
     }
     let n = header.boxes;
     if &file[..4] != b"FLOW" || ![1, 2].contains(&header.edition) {
@@ -372,7 +372,7 @@ impl Runner {
             } else {
                 block[..510].copy_from_slice(&self.table[510 * (j - 1)..510 * j]);
             }
-            let check = check_of(edition, j as u32, block) as u16;
+            let check = check_of(edition, j as u16, block);
             block[510..].copy_from_slice(&check.to_le_bytes());
         }
         Told::Written(length)

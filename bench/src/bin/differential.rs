@@ -9,7 +9,7 @@ use std::time::{Duration, Instant};
 
 const STRIDE: usize = 24;
 
-/// A list of calls as numbers, the files that its loads and shows name, and where in them the files begin that have two box blocks exchanged.
+/// A list of calls as numbers, the files that its loads and shows name, and where those begin in which two box blocks are exchanged.
 struct Script {
     files: Vec<u8>,
     words: Vec<[u32; STRIDE]>,

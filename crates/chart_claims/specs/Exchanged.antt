@@ -13,7 +13,7 @@ use Rattle.format.specs.declared.Header.{Header}
 use Rattle.format.specs.declared.Checked.the-variants.{Accepted, Refused}
 use Rattle.chart.specs.Chart.{joined}
 
--- The blocks of a file.
+-- How many blocks a file has.
 abbrev pub blocksOf : List ℕ → ℕ
 blocksOf f = length f / 512
 
@@ -40,7 +40,7 @@ ExchangeRefused =
     → j < blocksOf f
     → (blockOf f i ≢ blockOf f j) × (checkFile (exchanged i j f) ≡ Refused (refusal 2 i))
 
--- However its blocks are put together, some of them twice or not at all: the detail is the first block that is in another's place.
+-- However blocks of the file follow its block 0, some of them twice or not at all: the detail is the first block that is in another's place.
 abbrev pub OutOfOrderRefused : Type 0
 OutOfOrderRefused =
     (f : List ℕ) (h : Header) (from : ℕ → ℕ) (b : ℕ)

@@ -1,4 +1,4 @@
--- What is claimed of a chart and its file, of a file with two blocks exchanged, and at exact bounds.
+-- What is claimed of a chart and its file, of a file whose blocks are out of order, and at exact bounds.
 pub mod Claims
 pub mod Exchanged
 pub mod Bounds

@@ -21,7 +21,7 @@ sealed-bytes added block e =
     (sym (eqb-true (at block 510) _ (and-left low high e)), sym (eqb-true (at block 511) _ (and-right low high e)))
 
 -- 511 times a difference of places is less than 65,536.
-one-place : (sum i j : ℕ) → i ≤ 5 → j ≤ 5 → (sum + 511 * i) % 65536 ≡ (sum + 511 * j) % 65536 → i ≡ j
+one-place : (sum i j : ℕ) → i ≤ 4 → j ≤ 4 → (sum + 511 * i) % 65536 ≡ (sum + 511 * j) % 65536 → i ≡ j
 one-place sum i j few few′ e = on (decLt ((sum + 511 * i) / 65536) ((sum + 511 * j) / 65536)) (decLt ((sum + 511 * j) / 65536) ((sum + 511 * i) / 65536))
   where
     on : Dec ((sum + 511 * i) / 65536 < (sum + 511 * j) / 65536) → Dec ((sum + 511 * j) / 65536 < (sum + 511 * i) / 65536) → i ≡ j
@@ -30,7 +30,7 @@ one-place sum i j few few′ e = on (decLt ((sum + 511 * i) / 65536) ((sum + 511
     on (no same) (no same′) = omega arith
 
 -- A block is sealed for one place of an edition 2 file alone.
-pub sealed-once : (i j : ℕ) (block : List ℕ) → i ≤ 5 → j ≤ 5 → isSealed (addend 2 i) block ≡ true → isSealed (addend 2 j) block ≡ true → i ≡ j
+pub sealed-once : (i j : ℕ) (block : List ℕ) → i ≤ 4 → j ≤ 4 → isSealed (addend 2 i) block ≡ true → isSealed (addend 2 j) block ≡ true → i ≡ j
 unfolding addend checksum
 sealed-once i j block few few′ ei ej =
     let at-i = sealed-bytes (addend 2 i) block ei in

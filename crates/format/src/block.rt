@@ -41,7 +41,7 @@ pub fn checksum(added: u32, block: &[u8]) -> u32
     sum as u32
 }
 
-// Bytes 510 and 511 hold the block's check, low byte first.
+// Bytes 510 and 511 hold the block's check, with so much added, low byte first.
 pub(crate) fn is_sealed(added: u32, block: &[u8]) -> bool
     requires { ⌜ 512 ≤ length (now block) ⌝ }
     ensures { λ r. ⌜ r ≡ isSealed added (now (block .entry)) ⌝ }

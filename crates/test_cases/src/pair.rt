@@ -94,7 +94,7 @@ impl Pair {
         self
     }
 
-    // The next file.
+    // The next file, and whether two of its blocks are exchanged.
     pub fn of_file(mut self, exchanged: bool) -> Pair {
         self.exchanged = exchanged;
         self
@@ -142,7 +142,7 @@ impl Pair {
             .hold(byte(file, 4))
     }
 
-    // After a load of a file of an edition: the numbers of the chart held.
+    // After a load of a file of an edition: the numbers of the chart held, and what the load is counted as.
     fn hold(mut self, edition: u32) -> Pair {
         let t = self.told;
         if t.kind == kinds::CHART {

@@ -137,7 +137,7 @@ fn once(state: &mut u64, file: &mut File, shape: Shape, length: usize) -> usize 
     length
 }
 
-// Two box blocks exchanged, where the file has two.
+// Two box blocks exchanged, where the file has two; whether it has.
 fn exchange_blocks(state: &mut u64, file: &mut File, shape: Shape) -> bool {
     let last = (shape.boxes % 256 + 50) / 51;
     if last < 2 {
@@ -162,7 +162,7 @@ fn of_length(length: usize) -> Drawn {
     }
 }
 
-// A change to the file of a chart, one time in four two; or two blocks exchanged.
+// A change to the file of a chart, one time in four two; or two blocks exchanged, where it has them.
 fn make(state: &mut u64, file: &mut File, shape: Shape) -> Drawn {
     let length = files::length_of(shape.boxes);
     if one_in(state, 8) {

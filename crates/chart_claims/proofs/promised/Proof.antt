@@ -7,7 +7,21 @@ use Rattle.chart_claims.proofs.promised.Statement.{statement}
 use Rattle.chart_claims.proofs.promised.Tie as tie
 
 returns : tie.Need-returns
-returns c = (file-has-length, reproduces-file, reproduces-chart, obeys-rules, shows-the-box, stays-in-range, exchange-refused, out-of-order-refused, others-add-nothing, exact-room, last-box-shown, ends-exchanged, loads-within-bounds)
+returns c = (
+  file-has-length,
+  reproduces-file,
+  reproduces-chart,
+  obeys-rules,
+  shows-the-box,
+  stays-in-range,
+  exchange-refused,
+  out-of-order-refused,
+  others-add-nothing,
+  exact-room,
+  last-box-shown,
+  ends-exchanged,
+  loads-within-bounds,
+)
 
 pub promised-spec : {M : Type 1} → statement M
 promised-spec = tie.close (tie.spec returns)

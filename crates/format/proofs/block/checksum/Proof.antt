@@ -60,8 +60,9 @@ loop-less c = search needs
 
 loop-again : tie.Need-loop-again Inv-loop μ-loop
 loop-again c =
+    let a = c .before .before .before .before .before .before .before .args in
     let l = c .before .before .before .before .loop in
-    let more = sum-more (c .before .before .before .before .before .before .before .args .added) (now (c .before .before .before .before .before .before .before .args .block)) (l .i) (l .sum) (l .inv .4) in
+    let more = sum-more (a .added) (now (a .block)) (l .i) (l .sum) (l .inv .4) in
     let byte = c .before .to-u32 in
     let sum = c .wrapping-add-u16 in (
       omega arith,
@@ -76,8 +77,9 @@ cast-result c = search needs
 
 returns : tie.Need-returns Inv-loop μ-loop
 returns c =
+    let a = c .before .before .before .before .args in
     let l = c .before .loop in
-    sum-end (c .before .before .before .before .args .added) (now (c .before .before .before .before .args .block)) (l .i) (l .sum) (l .inv .4) (omega arith) (l .inv .3)
+    sum-end (a .added) (now (a .block)) (l .i) (l .sum) (l .inv .4) (omega arith) (l .inv .3)
 
 pub checksum-spec : {M : Type 1} → statement M
 checksum-spec =
