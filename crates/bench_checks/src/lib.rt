@@ -1,5 +1,5 @@
 // For the benchmark, to be timed: health checks. They stand alone so that each call of the runner has one caller, as in a program, and is compiled
-// into it.
+// into it. They have no equation: the benchmark compares their sums with those of plain Rust.
 use bench_rounds::fold_told;
 use bench_rounds::loaded;
 

@@ -1,4 +1,5 @@
-// For the benchmark, to be timed: many rounds of one call; what each tells is folded into a sum.
+// For the benchmark, to be timed: many rounds of one call; what each tells is folded into a sum. The functions have no equations: the benchmark compares the sums
+// with those of plain Rust.
 use runner::Runner;
 use told::Encoded;
 ghost use Prim.Native.Nat.{_≤_};

@@ -13,7 +13,7 @@ use borrow.Author.Tests.{eq-eqb, ne-eqb}
 use Rattle.boxes.specs.Bytes.{at}
 use Rattle.boxes.proofs.Bools.{never-true}
 use Rattle.format.specs.Block.{addend, isSealed}
-use Rattle.format.specs.File.{blockOf, headerOf, lengthRule, checkRule, refusal, checkFile}
+use Rattle.format.specs.File.{blocksOf, blockOf, headerOf, lengthRule, checkRule, refusal, checkFile}
 use Rattle.format.specs.declared.Header.{Header}
 use Rattle.format.specs.declared.Checked.the-variants.{Accepted, Refused}
 use Rattle.format.proofs.Search.{first-is}
@@ -22,7 +22,7 @@ use Rattle.format.proofs.Checks.{tells-check}
 use Rattle.format.proofs.Accepted as checked
 use Rattle.chart.proofs.Lists.{length-part}
 use Rattle.chart.proofs.Joined.{Sized, joined-length, joined-piece}
-use Rattle.chart_claims.specs.Exchanged.{blocksOf, rearranged, inPlaceOf, ExchangeRefused, OutOfOrderRefused, OthersAddNothing}
+use Rattle.chart_claims.specs.Exchanged.{rearranged, inPlaceOf, ExchangeRefused, OutOfOrderRefused, OthersAddNothing}
 
 module _ (f : List ℕ) (h : Header) (e : checkFile f ≡ Accepted h) (two : h .edition ≡ 2) where
   facts : checked.Accepted f h
@@ -36,10 +36,10 @@ module _ (f : List ℕ) (h : Header) (e : checkFile f ≡ Accepted h) (two : h .
   unfolding checkRule
   sealed p l = let a = facts in rw two at (a .checks p (omega (arith, a .long)))
 
-  differ : (i j : ℕ) → 1 ≤ i → i < j → j < blocksOf f → blockOf f i ≢ blockOf f j
-  differ i j l m n same =
+  differ : (i j : ℕ) → i < j → j < blocksOf f → blockOf f i ≢ blockOf f j
+  differ i j below last same =
       let first = rw same at (sealed i (omega arith)) in
-      let one = sealed-once i j (blockOf f j) (omega (arith, few)) (omega (arith, few)) first (sealed j n) in
+      let one = sealed-once i j (blockOf f j) (omega (arith, few)) (omega (arith, few)) first (sealed j last) in
       omega arith
 
   module _ (from : ℕ → ℕ) (within : (p : ℕ) → p < blocksOf f → from p < blocksOf f) where
@@ -113,7 +113,7 @@ pub exchange-refused : ExchangeRefused
 exchange-refused f h i j e two first below last =
     let within : (p : ℕ) → p < blocksOf f → inPlaceOf i j p < blocksOf f = λ p l. place-within i j (blocksOf f) p (omega arith) last l in
     let moved : inPlaceOf i j i ≢ i = λ d. let is = place-of-i i j in omega arith in
-    (differ f h e two i j first below last, out-of-order-refused f h (inPlaceOf i j) i e two within first (omega arith) (place-below i j below) moved)
+    (differ f h e two i j below last, out-of-order-refused f h (inPlaceOf i j) i e two within first (omega arith) (place-below i j below) moved)
 
 pub others-add-nothing : OthersAddNothing
 unfolding addend

@@ -6,13 +6,13 @@ use mathlib.Core.Logic.{_≢_}
 use mathlib.Core.Bool.{true}
 use lib.ListN.{length}
 use Rattle.boxes.specs.Bytes.{at, part, allZero, boxOf}
-use Rattle.format.specs.File.{blockOf, boxRule, refusal, checkFile}
+use Rattle.format.specs.File.{blocksOf, blockOf, boxRule, refusal, checkFile}
 use Rattle.format.specs.declared.Header.{Header}
 use Rattle.format.specs.declared.Checked.the-variants.{Accepted, Refused}
 use Rattle.chart.specs.Chart.{tableOf}
 use Rattle.chart.specs.ShowBox.{showBox}
 use Rattle.chart.specs.WriteBack.{fileLength, hasRoom}
-use Rattle.chart_claims.specs.Exchanged.{blocksOf, exchanged}
+use Rattle.chart_claims.specs.Exchanged.{exchanged}
 
 -- "12: the buffer for writing back is shorter than the file": one exactly as long is enough.
 abbrev pub ExactRoom : Type 0

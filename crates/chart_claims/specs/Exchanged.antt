@@ -1,21 +1,16 @@
 -- 02, d: "A chart joined from a ticket with its box blocks out of order loaded." In edition 2 it is refused. What changes places is whole blocks of 512
 -- bytes, with their checks; a box block is any but block 0.
-use Prim.Native.Nat.{ℕ, _/_, _≤_, _<_}
+use Prim.Native.Nat.{ℕ, _≤_, _<_}
 use mathlib.Core.Path.{_≡_}
 use mathlib.Core.List.{List}
 use mathlib.Core.Logic.{_≢_}
 use mathlib.Core.Bool.{cond}
 use lib.Dec.{eqb}
-use lib.ListN.{length}
 use Rattle.format.specs.Block.{addend}
-use Rattle.format.specs.File.{blockOf, refusal, checkFile}
+use Rattle.format.specs.File.{blocksOf, blockOf, refusal, checkFile}
 use Rattle.format.specs.declared.Header.{Header}
 use Rattle.format.specs.declared.Checked.the-variants.{Accepted, Refused}
 use Rattle.chart.specs.Chart.{joined}
-
--- How many blocks a file has.
-abbrev pub blocksOf : List ℕ → ℕ
-blocksOf f = length f / 512
 
 -- A file joined of a file's blocks: in place b stands block (from b).
 unfoldable pub rearranged : (from : ℕ → ℕ) → List ℕ → List ℕ

@@ -1,6 +1,6 @@
 -- What it says of a file that its checks pass: one record of facts, which load, show a box and the round trip cite.
 -- Assumes nothing.
-use Prim.Native.Nat.{ℕ, _*_, _-_, _/_, _≤_, _<_}
+use Prim.Native.Nat.{ℕ, _*_, _-_, _≤_, _<_}
 use mathlib.Core.Path.{_≡_, refl}
 use mathlib.Core.List.{List, [], _∷_}
 use mathlib.Core.Bool.{Bool, true, false, cond, not}
@@ -10,7 +10,7 @@ use lib.ListN.{length}
 use borrow.Author.Tests.{eqb-true, not-false}
 use Rattle.boxes.specs.Bytes.{at, part, allZero}
 use Rattle.format.specs.Search.{firstFailing}
-use Rattle.format.specs.File.{blocksFor, headerOf, isEdition, inRange, lengthRule, checkRule, lettersRule, headerRule, placeRule, refusal, checkFile}
+use Rattle.format.specs.File.{blocksOf, blocksFor, headerOf, isEdition, inRange, lengthRule, checkRule, lettersRule, headerRule, placeRule, refusal, checkFile}
 use Rattle.format.specs.declared.Header.{Header}
 use Rattle.format.specs.declared.Checked.{Checked}
 use Rattle.format.specs.declared.Checked.the-variants as checked
@@ -61,7 +61,7 @@ letters-of f e =
 pub accepted : (f : List ℕ) (h : Header) → checkFile f ≡ checked.Accepted h → Accepted f h
 unfolding checkFile headerRule
 accepted f h e =
-    let blocks = length f / 512 in
+    let blocks = blocksOf f in
     let places = 51 * (blocks - 1) in
     let wrong = firstFailing (checkRule f (headerOf f)) blocks in
     let broken = firstFailing (placeRule f (headerOf f)) places in

@@ -1,18 +1,18 @@
 -- What checkFile tells at each of its checks, from the facts that lead there. Assumes nothing.
-use Prim.Native.Nat.{ℕ, _*_, _-_, _/_, _≤_, _<_}
+use Prim.Native.Nat.{ℕ, _*_, _-_, _≤_, _<_}
 use mathlib.Core.Path.{_≡_}
 use mathlib.Core.List.{List}
 use mathlib.Core.Bool.{true, false}
 use lib.ListN.{length}
 use borrow.Author.Tests.{lt-ltb, le-ltb, eq-eqb, ne-eqb}
 use Rattle.format.specs.Search.{firstFailing}
-use Rattle.format.specs.File.{blocksFor, headerOf, lengthRule, checkRule, lettersRule, headerRule, placeRule, refusal, checkFile}
+use Rattle.format.specs.File.{blocksOf, blocksFor, headerOf, lengthRule, checkRule, lettersRule, headerRule, placeRule, refusal, checkFile}
 use Rattle.format.specs.declared.Checked.the-variants.{Accepted, Refused}
 
 -- The names of checkFile's definition.
 module _ (f : List ℕ) where
   abbrev pub blocks : ℕ
-  blocks = length f / 512
+  blocks = blocksOf f
 
   abbrev pub wrong : ℕ
   wrong = firstFailing (checkRule f (headerOf f)) blocks

@@ -13,7 +13,10 @@ use Rattle.format.specs.declared.Refusal.{Refusal}
 use Rattle.format.specs.declared.Checked.{Checked}
 use Rattle.format.specs.declared.Checked.the-variants.{Accepted, Refused}
 
--- Block j of a file: "blocks of 512 bytes".
+-- "Blocks of 512 bytes": how many a file has, and block j of it.
+abbrev pub blocksOf : List ℕ → ℕ
+blocksOf f = length f / 512
+
 abbrev pub blockOf : List ℕ → ℕ → List ℕ
 blockOf f j = part f (512 * j) 512
 
@@ -36,7 +39,8 @@ blocksFor n = 1 + (n + 50) / 51
 abbrev pub lengthRule : ℕ → Bool
 lengthRule bytes = eqb bytes 1024 || eqb bytes 1536 || eqb bytes 2048 || eqb bytes 2560
 
--- "2: a block's check differs." 02, d: "It refuses a block whose changed check differs by 2, in the old place", so byte 4 of block 0 counts whatever the letters are.
+-- "2: a block's check differs." 02, d: "It refuses a block whose changed check differs by 2, in the old place", so byte 4 of block 0 counts
+-- whatever the letters are.
 unfoldable pub checkRule : List ℕ → Header → ℕ → Bool
 checkRule f h b = isSealed (addend (h .edition) b) (blockOf f b)
 
@@ -72,7 +76,7 @@ refusal number detail = record { number = number; detail = detail }
 -- Detail: the first such place."
 unfoldable pub checkFile : List ℕ → Checked
 checkFile f =
-    let blocks = length f / 512 in
+    let blocks = blocksOf f in
     let wrong = firstFailing (checkRule f (headerOf f)) blocks in
     let places = 51 * (blocks - 1) in
     let broken = firstFailing (placeRule f (headerOf f)) places in

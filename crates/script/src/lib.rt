@@ -1,4 +1,4 @@
-// The library for callers in other languages: a list of calls, given as numbers, and what each tells.
+// The library for callers in other languages: a list of calls, given as numbers, and what each tells. `flow_script` has no equation: what it tells is compared with plain Rust.
 //
 // A call is 24 numbers: its kind, then its arguments. 0 load and 6 show a box: where the file starts among the lent bytes, its length, and the number of
 // the box; 1 begin: mode, allowed set, limit, how many inputs, and the inputs; 2 advance: the amount; 3 answer; 4 abandon; 5 write back: how many

@@ -10,7 +10,8 @@ ghost use Prim.Native.Nat.{_≤_};
 ghost use lib.ListN.{length};
 ghost use Rattle.io.specs.Counts.{Counts};
 
-// Reads chart.bin to the front of a buffer, and answers how many bytes: none where it cannot be read.
+// Reads chart.bin to the front of a buffer, and answers how many bytes: none where it cannot be read. There is no equation, since no contract can say what the file
+// holds.
 pub fn read_chart(buf: &mut [u8]) -> usize
     ensures { λ r. ⌜ Counts r (now (buf .exit)) ⌝ }
 {

@@ -1,5 +1,5 @@
 // Runs the cases of document 01 that are not marked (P), which standard input has, and random lists of calls, on the runner and on the second
-// interpreter. It stops at the first difference, and else says what was reached.
+// interpreter. It stops at the first difference, and else says what was reached. Its functions have no equations: what it prints is compared.
 mod commands;
 mod compare;
 mod counts;

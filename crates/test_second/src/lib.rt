@@ -1,6 +1,7 @@
 // A second interpreter of charts, of edition 1 and of edition 2: it keeps the loaded file's bytes and
 // reads each box out of them.
-// Every call is total: no argument and no model is excluded.
+// Every call is total: no argument and no model is excluded. None has an equation: what they answer
+// is compared with the runner's answers.
 ghost use Prim.Native.Nat.{_≤_};
 
 mod blocks;
