@@ -90,6 +90,8 @@ local vars, marks = {}, {}
 local function run(chart, mode, limit)
   local at, steps, counter = chart.first, 0, 0
   local boxes, edition = chart.boxes, chart.edition
+  -- The inputs that an assignment keeps of its target's old set and takes of the sets read: bare keeps all and takes none.
+  local keep, take = mode == 1 and 0 or 65535, mode == 0 and 0 or 65535
   while true do
     local b = boxes[at]
     local kind = b[1]
@@ -114,7 +116,7 @@ local function run(chart, mode, limit)
       elseif op == 10 then v = leading(x)
       else v = edition == 2 and min(trailing(x), y) or trailing(x) end
       vars[t] = v
-      if mode == 1 then marks[t] = read elseif mode == 2 then marks[t] = bor(marks[t], read) end
+      marks[t] = bor(band(read, take), band(marks[t], keep))
       at = b[6]
     elseif kind == 2 then
       local read = bor(marks[b[4]], marks[b[5]])

@@ -46,6 +46,10 @@ pub struct Runner {
     counter: u16,
     header: Header,
     mode: u8,
+    /// The inputs that an assignment keeps of its target's old set, by the mode.
+    keep: u16,
+    /// And those that it takes of the sets read.
+    take: u16,
     at: u8,
     limit: u32,
     steps: u32,
@@ -157,6 +161,8 @@ impl Runner {
             counter: 0,
             header: Header::default(),
             mode: 0,
+            keep: 0,
+            take: 0,
             at: 0,
             limit: 0,
             steps: 0,
@@ -222,6 +228,8 @@ impl Runner {
         }
         self.counter = 0;
         self.mode = mode as u8;
+        self.keep = if mode == 1 { 0 } else { 65535 };
+        self.take = if mode == 0 { 0 } else { 65535 };
         self.at = self.header.first;
         self.limit = effective(limit);
         self.steps = 0;
@@ -257,11 +265,7 @@ impl Runner {
             (_, false) => self.marks[i],
             _ => self.marks[i] | self.marks[j],
         };
-        match self.mode {
-            0 => {}
-            1 => self.marks[t] = read,
-            _ => self.marks[t] |= read,
-        }
+        self.marks[t] = read & self.take | self.marks[t] & self.keep;
         self.vars[t] = value;
         self.at = b[5];
     }

@@ -1,5 +1,5 @@
 -- The claims at their exact bounds, each from the theorem of its claim and nothing else. Assumes nothing.
-use Prim.Native.Nat.{ℕ, _+_, _-_}
+use Prim.Native.Nat.{ℕ, _+_, _-_, _^_}
 use mathlib.Core.Path.{_≡_, ap, sym, _∙_}
 use mathlib.Core.List.{List, [], _∷_, _++_, append-nil}
 use mathlib.Core.Bool.{true≢false}
@@ -13,10 +13,12 @@ use Rattle.begin.proofs.Begins.{effective-positive}
 use Rattle.calls.specs.Calls.{advance}
 use Rattle.runner.specs.Outcomes.{wrote, Outcome}
 use Rattle.claims.specs.Lists.{final, asked}
-use Rattle.claims.specs.Bounds.{AnswersAtTheLimit, RunsWithinBounds, WrittenIntoExactRoom, HeldWithinBounds, StatesWithinBounds, NamesWithinBounds}
+use Rattle.claims.specs.Bounds.{AnswersAtTheLimit, RunsWithinBounds, WrittenIntoExactRoom, HeldWithinBounds, StatesWithinBounds, NamesWithinBounds, KeepsOneInput}
 use Rattle.claims.proofs.Demand3.{demand3}
 use Rattle.claims.proofs.RunLaws.{begun-runs, counts-boxes, limit-ends, one-advance-ends, within-limit}
 use Rattle.claims.proofs.ChartLaws.{held-obeys, runs-in-range, ends-in-range, loaded-is-written}
+use Rattle.claims.proofs.Inputs.{alone-has}
+use Rattle.claims.proofs.Marking.{union-and-kept}
 use Rattle.claims.proofs.Naming.{names-withheld}
 use Rattle.claims.proofs.HighWater.{high-water-ends}
 
@@ -84,3 +86,6 @@ names-within-bounds r mode inputs allowed limit a cs q t m =
       never-true _ (λ e. let s = only (r .header .inputs) e in omega arith),
       (λ j y. never-true _ (λ e. true≢false (sym y ∙ only j e .1))),
     )
+
+pub keeps-one-input : KeepsOneInput
+keeps-one-input i before a b j = union-and-kept before (a ∷ b ∷ []) j .0 (2 ^ i) ∙ rw (alone-has i j)

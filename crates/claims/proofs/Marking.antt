@@ -1,5 +1,5 @@
 -- The rules of the sets, seen through any question that the empty set answers with no and that unions join, are 01's on marked and unmarked: whether a set is
--- empty, and whether an input is in it. And a run whose sets are seen as marks goes as the run does, box by box, since each rule by the mode and each
+-- empty, and whether an input is in it. By the last the arithmetic that sets a mark is read bit by bit; that it is the rule of each mode is in `MarkLaws`. And a run whose sets are seen as marks goes as the run does, box by box, since each rule by the mode and each
 -- union commutes with seeing a set as a mark. Assumes nothing.
 use Prim.Native.Nat.{ℕ, zero, suc, _%_, _^_, _≤_, _<_}
 use mathlib.Core.Path.{_≡_, refl, ap, sym, _∙_}
@@ -7,25 +7,26 @@ use mathlib.Core.List.{List, [], _∷_, map}
 use mathlib.Core.Bool.{Bool, true, false, cond, not, _&&_, _||_}
 use native.Mathlib.Decide.{decLt}
 use native.Mathlib.Omega.{arith}
-use lib.Bits.{bitOr, or-comm}
+use lib.Bits.{bitAnd, bitOr, or-comm}
 use lib.Dec.{eqb, ltb, leb}
 use lib.ListN.{getD, set, List·getD-map}
 use lib.Pow.{pow-pos}
 use borrow.Author.Tests.{lt-ltb, le-ltb, ne-eqb}
 use Rattle.decode.specs.Decode.{Box, assigns, decides, halts}
-use Rattle.marks.specs.Marks.{modeOf, marked, union, byMode, targetMark, decisionNotice, counterMark, haltNotice, namedBy}
+use Rattle.marks.specs.Marks.{modeOf, marked, union, decisionNotice, haltNotice}
 use Rattle.marks.specs.declared.Mode.{Mode}
-use Rattle.marks.specs.declared.Mode.the-variants.{Bare, Surveillance, HighWater}
-use Rattle.marks.proofs.MarkLaws.{marked-or}
+use Rattle.marks.proofs.MarkLaws.{marked-or, by-mode, by-map, set-surveillance, set-high-water, set-by-mode}
 use Rattle.machine.specs.Act.{entry, entries, noticeOr, act}
-use Rattle.machine.specs.Run.{Run, spent, Progress, going, over, moved, goesOn, settle, onward, run}
+use Rattle.machine.specs.Run.{Run, Progress, going, over, moved, goesOn, settle, onward, run}
 use Rattle.machine.specs.declared.Act.{Act}
 use Rattle.machine.specs.declared.Act.the-variants.{Store, Go, Value, Notice}
 use Rattle.begin.specs.Begin.{has, allows, withheldMark, firstMarks}
 use Rattle.begin.proofs.Begins.{marks-at, marks-past}
 use Rattle.claims.specs.Sets.{anyMarked, targetMarked, decisionStops, counterMarked, haltStops, SeenAsMarks, EmptyWhereUnmarked, SetsAreUnions}
+use Rattle.claims.specs.Sets.{UnionAndKept, OneArithmetic, SetAsRuled}
 use Rattle.claims.specs.Sets.{asMark, asMarks, progressAsMarks, SetsOnlyName}
-use Rattle.claims.proofs.Inputs.{none-has, or-has, alone-has}
+use Rattle.claims.proofs.Branches.{cond-both}
+use Rattle.claims.proofs.Inputs.{none-has, or-has, and-has, alone-has}
 
 -- A question that no input answers with yes, and a union exactly where one of its parts does.
 module _ (sees : ℕ → Bool) (none : sees 0 ≡ false) (join : (a b : ℕ) → sees (bitOr a b) ≡ (sees a || sees b)) where
@@ -37,28 +38,17 @@ module _ (sees : ℕ → Bool) (none : sees 0 ≡ false) (join : (a b : ℕ) →
   joined-seen : (old : ℕ) (read : List ℕ) → sees (bitOr old (union read)) ≡ (sees old || anyMarked (map sees read))
   joined-seen old read = join old (union read) ∙ ap (λ (b : Bool). sees old || b) (union-seen read)
 
-  target-seen : (mode : Mode) (target : ℕ) (read : List ℕ) → sees (targetMark mode target (union read)) ≡ targetMarked mode (sees target) (map sees read)
-  target-seen Bare target read = refl
-  target-seen Surveillance target read = union-seen read
-  target-seen HighWater target read = joined-seen target read
-
-  decision-seen : (mode : Mode) (read : List ℕ) → sees (decisionNotice mode (union read)) ≡ decisionStops mode (map sees read)
-  decision-seen Bare read = none
-  decision-seen Surveillance read = union-seen read
-  decision-seen HighWater read = none
-
-  counter-seen : (mode : Mode) (counter : ℕ) (read : List ℕ) → sees (counterMark mode counter (union read)) ≡ counterMarked mode (sees counter) (map sees read)
-  counter-seen Bare counter read = refl
-  counter-seen Surveillance counter read = refl
-  counter-seen HighWater counter read = joined-seen counter read
-
-  halt-seen : (mode : Mode) (counter output : ℕ) → sees (haltNotice mode counter output) ≡ haltStops mode (sees counter) (sees output)
-  halt-seen Bare counter output = none
-  halt-seen Surveillance counter output = refl
-  halt-seen HighWater counter output = ap sees (or-comm counter output) ∙ join output counter
-
   seen-as-marks : SeenAsMarks sees
-  seen-as-marks = record { assigns = target-seen; decides = decision-seen; counts = counter-seen; halts = halt-seen }
+  seen-as-marks =
+      record {
+        assigns = λ mode target read.
+            by-mode (λ k x. sees x ≡ targetMarked k (sees target) (map sees read)) mode _ _ _ refl (union-seen read) (joined-seen target read);
+        decides = λ mode read. by-mode (λ k x. sees x ≡ decisionStops k (map sees read)) mode _ _ _ none (union-seen read) none;
+        counts = λ mode counter read.
+            by-mode (λ k x. sees x ≡ counterMarked k (sees counter) (map sees read)) mode _ _ _ refl refl (joined-seen counter read);
+        halts = λ mode counter output.
+            by-mode (λ k x. sees x ≡ haltStops k (sees counter) (sees output)) mode _ _ _ none refl (ap sees (or-comm counter output) ∙ join output counter);
+      }
 
   -- And the mark that each variable begins with, where the question is known of one input's set.
   first-seen : (alone : ℕ → Bool) → ((j : ℕ) → sees (2 ^ j) ≡ alone j) → (allowed k v : ℕ) → k ≤ 16
@@ -93,6 +83,20 @@ sets-are-unions j = (
   seen-as-marks (λ set. has set j) (none-has j) (λ a b. or-has a b j),
 )
 
+pub union-and-kept : UnionAndKept
+union-and-kept before read j =
+    let all = union-seen (λ set. has set j) (none-has j) (λ a b. or-has a b j) read in (
+      (λ keep. or-has (union read) (bitAnd before keep) j ∙ rw (all, and-has before keep j)),
+      (λ numbers. or-has (bitAnd (union read) (numbers .take)) (bitAnd before (numbers .keep)) j
+          ∙ rw (and-has (union read) (numbers .take) j, all, and-has before (numbers .keep) j)),
+    )
+
+pub one-arithmetic : OneArithmetic
+one-arithmetic before read = (set-surveillance before (union read), set-high-water before (union read))
+
+pub set-as-ruled : SetAsRuled
+set-as-ruled mode before read b r = set-by-mode mode before (union read) b r
+
 -- A set seen as a mark is marked where it is; so unions and the rules by the mode.
 as-marked : (a : ℕ) → marked (asMark a) ≡ marked a
 as-marked a = on (marked a)
@@ -110,21 +114,13 @@ as-or a b = on (marked a) (marked b) ∙ ap (λ (x : Bool). cond x 1 0) (sym (ma
     on false true = refl
     on false false = refl
 
-as-mode : (m : Mode) (a b c : ℕ) → byMode m (asMark a) (asMark b) (asMark c) ≡ asMark (byMode m a b c)
-as-mode Bare a b c = refl
-as-mode Surveillance a b c = refl
-as-mode HighWater a b c = refl
-
 as-entry : (marks : List ℕ) (v : ℕ) → entry (map asMark marks) v ≡ asMark (entry marks v)
 as-entry marks v = List·getD-map asMark marks (v % 32) 0
 
 as-union : (marks reads : List ℕ) → union (entries (map asMark marks) reads) ≡ asMark (union (entries marks reads))
 unfolding union
 as-union marks [] = refl
-as-union marks (v ∷ reads) =
-    ap (λ (x : ℕ). bitOr x (union (entries (map asMark marks) reads))) (as-entry marks v)
-    ∙ ap (bitOr (asMark (entry marks v))) (as-union marks reads)
-    ∙ as-or (entry marks v) (union (entries marks reads))
+as-union marks (v ∷ reads) = rw (as-entry marks v, as-union marks reads) (as-or (entry marks v) (union (entries marks reads)))
 
 -- The act of a box.
 abbrev actAs : Act → Act
@@ -134,14 +130,7 @@ actAs (Value v) = Value v
 actAs (Notice named) = Notice (asMark named)
 
 notice-as : (m : Mode) (set : ℕ) (other : Act) → noticeOr m (asMark set) (actAs other) ≡ actAs (noticeOr m set other)
-notice-as m set other =
-    ap (λ (b : Bool). cond b (Notice (namedBy m (asMark set))) (actAs other)) (as-marked set)
-    ∙ ap (λ (x : ℕ). cond (marked set) (Notice x) (actAs other)) (as-mode m 0 set 0)
-    ∙ on (marked set)
-  where
-    on : (b : Bool) → cond b (Notice (asMark (namedBy m set))) (actAs other) ≡ actAs (cond b (Notice (namedBy m set)) other)
-    on true = refl
-    on false = refl
+notice-as m set other = rw (as-marked set, ← by-map asMark m 0 set 0) (cond-both (λ x y. x ≡ actAs y) (marked set) refl refl)
 
 module _ (m : Mode) (vars marks : List ℕ) (counter : ℕ) where
   act-as : (b : Box) → act m b vars (map asMark marks) (asMark counter) ≡ actAs (act m b vars marks counter)
@@ -149,24 +138,14 @@ module _ (m : Mode) (vars marks : List ℕ) (counter : ℕ) where
   act-as (assigns t reads gives next) =
       let old = entry marks t in
       let read = union (entries marks reads) in
-      ap (λ (x : ℕ). Store t (gives (entries vars reads)) x next)
-      (ap (λ (x : ℕ). targetMark m x (union (entries (map asMark marks) reads))) (as-entry marks t)
-      ∙ ap (targetMark m (asMark old)) (as-union marks reads)
-      ∙ ap (byMode m (asMark old) (asMark read)) (as-or old read)
-      ∙ as-mode m old read (bitOr old read))
+      rw (by-map asMark m old read (bitOr old read), ← as-or old read, as-entry marks t, as-union marks reads)
   act-as (decides reads holds next other) =
       let read = union (entries marks reads) in
-      let way = cond (holds (entries vars reads)) next other in
-      ap (λ (x : ℕ). noticeOr m (decisionNotice m x) (Go way (counterMark m (asMark counter) x))) (as-union marks reads)
-      ∙ ap (λ (x : ℕ). noticeOr m x (Go way (counterMark m (asMark counter) (asMark read)))) (as-mode m 0 read 0)
-      ∙ ap (λ (x : ℕ). noticeOr m (asMark (decisionNotice m read)) (Go way x))
-      (ap (byMode m (asMark counter) (asMark counter)) (as-or counter read) ∙ as-mode m counter counter (bitOr counter read))
-      ∙ notice-as m (decisionNotice m read) (Go way (counterMark m counter read))
+      let counted = by-map asMark m counter counter (bitOr counter read) in
+      rw (as-union marks reads, as-or counter read, ← counted, ← by-map asMark m 0 read 0) (notice-as m (decisionNotice m read) _)
   act-as halts =
       let output = entry marks 31 in
-      ap (λ (x : ℕ). noticeOr m (haltNotice m (asMark counter) x) (Value (entry vars 31))) (as-entry marks 31)
-      ∙ ap (λ (x : ℕ). noticeOr m x (Value (entry vars 31))) (ap (byMode m 0 (asMark output)) (as-or counter output) ∙ as-mode m 0 output (bitOr counter output))
-      ∙ notice-as m (haltNotice m counter output) (Value (entry vars 31))
+      rw (as-entry marks 31, as-or counter output, ← by-map asMark m 0 output (bitOr counter output)) (notice-as m (haltNotice m counter output) _)
 
 -- What the run comes to.
 set-as : (marks : List ℕ) (t m : ℕ) → set (map asMark marks) t (asMark m) ≡ map asMark (set marks t m)
@@ -176,11 +155,7 @@ set-as (x ∷ marks) (suc t) m = ap (λ (l : List ℕ). asMark x ∷ l) (set-as 
 
 goes-as : (q : Run) → goesOn (asMarks q) ≡ progressAsMarks (goesOn q)
 unfolding goesOn progressAsMarks
-goes-as q = on (leb (q .limit) (q .steps))
-  where
-    on : (b : Bool) → cond b (over spent (q .steps)) (going (asMarks q)) ≡ progressAsMarks (cond b (over spent (q .steps)) (going q))
-    on true = refl
-    on false = refl
+goes-as q = cond-both (λ x y. x ≡ progressAsMarks y) (leb (q .limit) (q .steps)) refl refl
 
 settle-as : (a : Act) (q : Run) → settle (actAs a) (asMarks q) ≡ progressAsMarks (settle a q)
 unfolding settle progressAsMarks

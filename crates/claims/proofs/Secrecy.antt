@@ -10,7 +10,6 @@ use Rattle.format.proofs.Ranges.{in-range}
 use Rattle.chart.specs.Chart.{Chart}
 use Rattle.marks.specs.Marks.{modeOf}
 use Rattle.marks.specs.declared.Mode.{Mode}
-use Rattle.machine.specs.Run.{Run}
 use Rattle.begin.specs.Begin.{effective, firstVars}
 use Rattle.begin.proofs.Begins.{effective-positive, length-vars, length-marks, first-agree}
 use Rattle.calls.specs.Calls.{begin}
@@ -47,7 +46,7 @@ pub starts-same : (mode : ℕ) (inputs : List ℕ) (allowed l l′ : ℕ) {c c�
 starts-same mode inputs allowed l l′ {c} {c′} s e = ap (λ (n : ℕ). started mode inputs allowed n c) e ∙ ap (started mode inputs allowed l′) s
 
 -- A mode that guards, as the start of a run has it.
-module _ (mode : ℕ) {m : Mode} (guards : (q : Run) → q .mode ≡ mode → q .counter ≡ 0 → Watched m q) where
+module _ (mode : ℕ) {m : Mode} (guards : Watched m mode 0) where
   start-low : (c : Chart) (inputs inputs′ : List ℕ) (allowed limit : ℕ)
       → c .header .inputs ≤ 16
       → length inputs ≡ c .header .inputs
@@ -56,7 +55,7 @@ module _ (mode : ℕ) {m : Mode} (guards : (q : Run) → q .mode ≡ mode → q 
       → LowEqual (started mode inputs allowed (effective limit) c) (started mode inputs′ allowed (effective limit) c)
   start-low c inputs inputs′ allowed limit few e e′ f =
       let k = c .header .inputs in
-      apart (firstVars inputs′) refl (guards (startOf mode inputs allowed (effective limit) (c .header)) refl refl) (λ h. effective-positive limit)
+      apart (firstVars inputs′) refl guards (λ h. effective-positive limit)
       (record {
         left = length-vars inputs (omega arith) ∙ sym (length-marks allowed k);
         right = length-vars inputs′ (omega arith) ∙ sym (length-marks allowed k);
@@ -76,5 +75,5 @@ module _ (mode : ℕ) {m : Mode} (guards : (q : Run) → q .mode ≡ mode → q 
 
 pub noninterference : Noninterference
 unfolding modeOf
-noninterference mode (inl e) = secret mode (λ q d c. surveyed (ap modeOf (d ∙ e)))
-noninterference mode (inr e) = secret mode (λ q d c. unmarked (ap modeOf (d ∙ e)) c)
+noninterference mode (inl e) = secret mode (surveyed (ap modeOf e))
+noninterference mode (inr e) = secret mode (unmarked (ap modeOf e) refl)

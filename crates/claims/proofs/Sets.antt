@@ -30,7 +30,7 @@ module _ (P : ℕ → Type 0) (none : P 0) (join : (a b : ℕ) → P a → P b �
   union-has marks all (v ∷ vs) = join (entry marks v) (union (entries marks vs)) (all (v % 32)) (union-has marks all vs)
 
   named-has : (m : Mode) (set : ℕ) → P set → P (namedBy m set)
-  named-has m set h = by-mode P m 0 set 0 none h none
+  named-has m set h = by-mode (λ k. P) m 0 set 0 none h none
 
   settle-carries : (q : Run) (m : Mode) (b : Box) → AllSets P q → Carries P (settle (act m b (q .vars) (q .marks) (q .counter)) q)
   unfolding settle act
@@ -40,7 +40,7 @@ module _ (P : ℕ → Type 0) (none : P 0) (join : (a b : ℕ) → P a → P b �
       let mark = targetMark m old read in
       let has = union-has (q .marks) (h .marks) reads in
       let before = h .marks (t % 32) in
-      let new = by-mode P m old read (bitOr old read) before has (join old read before has) in
+      let new = by-mode (λ k. P) m old read (bitOr old read) before has (join old read before has) in
       goes-by (Carries P) _ none
       (λ l. record {
         marks = set-each (λ x y z. P x) (q .marks) (q .marks) (q .marks) refl refl (h .marks) (t % 32) mark mark mark new;
@@ -50,15 +50,15 @@ module _ (P : ℕ → Type 0) (none : P 0) (join : (a b : ℕ) → P a → P b �
       let read = union (entries (q .marks) reads) in
       let has = union-has (q .marks) (h .marks) reads in
       let counter = counterMark m (q .counter) read in
-      let new = by-mode P m (q .counter) (q .counter) (bitOr (q .counter) read) (h .counter) (h .counter) (join (q .counter) read (h .counter) has) in
+      let new = by-mode (λ k. P) m (q .counter) (q .counter) (bitOr (q .counter) read) (h .counter) (h .counter) (join (q .counter) read (h .counter) has) in
       notice-by (Carries P) m (decisionNotice m read) (Go (cond (holds (entries (q .vars) reads)) next other) counter) q
-      (λ e. named-has m (decisionNotice m read) (by-mode P m 0 read 0 none has none))
+      (λ e. named-has m (decisionNotice m read) (by-mode (λ k. P) m 0 read 0 none has none))
       (λ e. goes-by (Carries P) _ none (λ l. record { marks = h .marks; counter = new }))
   settle-carries q m halts h =
       let output = entry (q .marks) 31 in
       notice-by (Carries P) m (haltNotice m (q .counter) output) (Value (entry (q .vars) 31)) q
       (λ e. named-has m (haltNotice m (q .counter) output)
-      (by-mode P m 0 output (bitOr (q .counter) output) none (h .marks 31) (join (q .counter) output (h .counter) (h .marks 31))))
+      (by-mode (λ k. P) m 0 output (bitOr (q .counter) output) none (h .marks 31) (join (q .counter) output (h .counter) (h .marks 31))))
       (λ e. none)
 
   pub run-carries : (flow : ℕ → Box) (m : ℕ) (q : Run) → AllSets P q → Carries P (run flow m (going q))

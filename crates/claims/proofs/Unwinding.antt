@@ -11,7 +11,7 @@ use lib.Dec.{leb}
 use lib.ListN.{length, getD, set, length-set}
 use Rattle.chart.specs.WriteBack.{withFile}
 use Rattle.decode.specs.Decode.{Box, assigns, decides, halts}
-use Rattle.marks.specs.Marks.{modeOf, marked, union, hides}
+use Rattle.marks.specs.Marks.{modeOf, marked, union, byMode, targetMark, haltNotice, namedBy, hides}
 use Rattle.marks.specs.declared.Mode.{Mode}
 use Rattle.marks.specs.declared.Mode.the-variants.{Surveillance, HighWater}
 use Rattle.marks.proofs.MarkLaws.{or-none, union-none, marked-none}
@@ -58,17 +58,26 @@ abbrev pub withVars : Run → List ℕ → Run
 withVars q w =
     record { vars = w; marks = q .marks; counter = q .counter; mode = q .mode; at = q .at; limit = q .limit; steps = q .steps }
 
--- A run that a mode guards: under surveillance, or with the high-water mark while no decision has read a marked variable.
-pub data Watched : Mode → Run → Type 0 where
-  surveyed : {q : Run} → modeOf (q .mode) ≡ Surveillance → Watched Surveillance q
-  unmarked : {q : Run} → modeOf (q .mode) ≡ HighWater → q .counter ≡ 0 → Watched HighWater q
+-- A mode that guards a run, by the run's mode and counter mark: surveillance, or the high-water mark while no decision has read a marked variable.
+pub data Watched : Mode → (mode counter : ℕ) → Type 0 where
+  surveyed : {mode counter : ℕ} → modeOf mode ≡ Surveillance → Watched Surveillance mode counter
+  unmarked : {mode counter : ℕ} → modeOf mode ≡ HighWater → counter ≡ 0 → Watched HighWater mode counter
+
+watched-mode : {m : Mode} {mode counter : ℕ} → Watched m mode counter → modeOf mode ≡ m
+watched-mode (surveyed m) = m
+watched-mode (unmarked m c) = m
+
+-- Where such a mode gives its target or a halt no mark, what was read had none.
+read-none : {m : Mode} {mode counter : ℕ} → Watched m mode counter → (bare old read : ℕ) → byMode m bare read (bitOr old read) ≡ 0 → read ≡ 0
+read-none (surveyed m) bare old read z = z
+read-none (unmarked m c) bare old read z = or-none old read z .1
 
 data Low : Mode → Progress → Progress → Type 0 where
   same-run : {m : Mode} {p : Progress} → Low m p p
-  runs-apart : {m : Mode} {q : Run} (w : List ℕ) → Watched m q → Agree (q .marks) (q .vars) w → Low m (going q) (going (withVars q w))
+  runs-apart : {m : Mode} {q : Run} (w : List ℕ) → Watched m (q .mode) (q .counter) → Agree (q .marks) (q .vars) w → Low m (going q) (going (withVars q w))
   both-lost : {p p′ : Progress} → Lost p → Lost p′ → Low HighWater p p′
 
-goes-low : {m : Mode} (q : Run) (w : List ℕ) → Watched m q → Agree (q .marks) (q .vars) w → Low m (goesOn q) (goesOn (withVars q w))
+goes-low : {m : Mode} (q : Run) (w : List ℕ) → Watched m (q .mode) (q .counter) → Agree (q .marks) (q .vars) w → Low m (goesOn q) (goesOn (withVars q w))
 unfolding goesOn
 goes-low {m} q w s h = cond-both (Low m) (leb (q .limit) (q .steps)) same-run (runs-apart {q = q} w s h)
 
@@ -77,13 +86,14 @@ module _ (q : Run) (w : List ℕ) (h : Agree (q .marks) (q .vars) w) where
   abbrev settlesLow : Mode → Box → Type 0
   settlesLow m b = Low m (settle (act m b (q .vars) (q .marks) (q .counter)) q) (settle (act m b w (q .marks) (q .counter)) (withVars q w))
 
-  settle-surveyed : (b : Box) → modeOf (q .mode) ≡ Surveillance → settlesLow Surveillance b
+  settle-low : (b : Box) {m : Mode} → Watched m (q .mode) (q .counter) → settlesLow m b
   unfolding settle act
-  settle-surveyed (assigns t reads gives next) m =
-      goes-low _ _ (surveyed m)
-      (set-agree h (t % 32) (gives (entries (q .vars) reads)) (gives (entries w reads)) (union (entries (q .marks) reads))
-      (λ z. ap gives (values-agree h reads z)))
-  settle-surveyed (decides reads holds next other) m = on (marked (union (entries (q .marks) reads))) refl
+  settle-low (assigns t reads gives next) {m} g =
+      let read = union (entries (q .marks) reads) in
+      goes-low _ _ g
+      (set-agree h (t % 32) (gives (entries (q .vars) reads)) (gives (entries w reads)) (targetMark m (entry (q .marks) t) read)
+      (λ z. ap gives (values-agree h reads (read-none g _ (entry (q .marks) t) read z))))
+  settle-low (decides reads holds next other) (surveyed m) = on (marked (union (entries (q .marks) reads))) refl
     where
       on : (b : Bool) → marked (union (entries (q .marks) reads)) ≡ b
           → Low Surveillance
@@ -91,42 +101,28 @@ module _ (q : Run) (w : List ℕ) (h : Agree (q .marks) (q .vars) w) where
           (settle (cond b (Notice (union (entries (q .marks) reads))) (Go (cond (holds (entries w reads)) next other) (q .counter))) (withVars q w))
       on true e = same-run
       on false e = rw (← values-agree h reads (marked-none _ e)) (goes-low _ w (surveyed m) h)
-  settle-surveyed halts m = on (marked (entry (q .marks) 31)) refl
-    where
-      on : (b : Bool) → marked (entry (q .marks) 31) ≡ b
-          → Low Surveillance
-          (settle (cond b (Notice (entry (q .marks) 31)) (Value (entry (q .vars) 31))) q)
-          (settle (cond b (Notice (entry (q .marks) 31)) (Value (entry w 31))) (withVars q w))
-      on true e = same-run
-      on false e = rw (h .agree 31 (marked-none _ e)) same-run
-
-  settle-unmarked : (b : Box) → modeOf (q .mode) ≡ HighWater → q .counter ≡ 0 → settlesLow HighWater b
-  unfolding settle act
-  settle-unmarked (assigns t reads gives next) m c =
-      let read = union (entries (q .marks) reads) in
-      goes-low _ _ (unmarked m c)
-      (set-agree h (t % 32) (gives (entries (q .vars) reads)) (gives (entries w reads)) (bitOr (entry (q .marks) t) read)
-      (λ z. ap gives (values-agree h reads (or-none (entry (q .marks) t) read z .1))))
-  settle-unmarked (decides reads holds next other) m c = on (marked (bitOr (q .counter) (union (entries (q .marks) reads)))) refl
+  settle-low (decides reads holds next other) (unmarked m c) = on (marked (bitOr (q .counter) (union (entries (q .marks) reads)))) refl
     where
       on : (b : Bool) → marked (bitOr (q .counter) (union (entries (q .marks) reads))) ≡ b → settlesLow HighWater (decides reads holds next other)
       on true e = both-lost (goes-lost _ m e) (goes-lost _ m e)
       on false e =
           let none = marked-none _ e in
           rw (← values-agree h reads (or-none (q .counter) _ none .1)) (goes-low _ w (unmarked m none) h)
-  settle-unmarked halts m c = on (marked (bitOr (q .counter) (entry (q .marks) 31))) refl
+  settle-low halts {m} g = on (marked (haltNotice m (q .counter) (entry (q .marks) 31))) refl
     where
-      on : (b : Bool) → marked (bitOr (q .counter) (entry (q .marks) 31)) ≡ b
-          → Low HighWater (settle (cond b (Notice 0) (Value (entry (q .vars) 31))) q) (settle (cond b (Notice 0) (Value (entry w 31))) (withVars q w))
+      stop : ℕ
+      stop = haltNotice m (q .counter) (entry (q .marks) 31)
+
+      on : (b : Bool) → marked stop ≡ b
+          → Low m (settle (cond b (Notice (namedBy m stop)) (Value (entry (q .vars) 31))) q)
+          (settle (cond b (Notice (namedBy m stop)) (Value (entry w 31))) (withVars q w))
       on true e = same-run
-      on false e = rw (h .agree 31 (or-none (q .counter) _ (marked-none _ e) .1)) same-run
+      on false e = rw (h .agree 31 (read-none g 0 (q .counter) (entry (q .marks) 31) (marked-none _ e))) same-run
 
   -- The box at hand.
-  step-low : (flow : ℕ → Box) {m : Mode} → Watched m q → Low m (step flow q) (step flow (withVars q w))
-  step-low flow (surveyed m) =
-      subst (λ (k : Mode). Low Surveillance (stepBy flow k q) (stepBy flow k (withVars q w))) (sym m) (settle-surveyed (flow (q .at)) m)
-  step-low flow (unmarked m c) =
-      subst (λ (k : Mode). Low HighWater (stepBy flow k q) (stepBy flow k (withVars q w))) (sym m) (settle-unmarked (flow (q .at)) m c)
+  step-low : (flow : ℕ → Box) {m : Mode} → Watched m (q .mode) (q .counter) → Low m (step flow q) (step flow (withVars q w))
+  step-low flow {m} g =
+      subst (λ (k : Mode). Low m (stepBy flow k q) (stepBy flow k (withVars q w))) (sym (watched-mode g)) (settle-low (flow (q .at)) g)
 
 onward-low : (flow : ℕ → Box) {m : Mode} {p p′ : Progress} → Low m p p′ → Low m (onward flow p) (onward flow p′)
 unfolding onward
@@ -142,7 +138,7 @@ run-low flow (suc n) h = run-low flow n (onward-low flow h)
 -- What is kept of low-equal runs, where one that hides its counts is over: the same, or two runs apart under surveillance.
 data Close : Progress → Progress → Type 0 where
   close : {p : Progress} → Close p p
-  still-apart : {q : Run} (w : List ℕ) → Watched Surveillance q → Agree (q .marks) (q .vars) w → Close (going q) (going (withVars q w))
+  still-apart : {q : Run} (w : List ℕ) → Watched Surveillance (q .mode) (q .counter) → Agree (q .marks) (q .vars) w → Close (going q) (going (withVars q w))
 
 kept-close : {m : Mode} {p p′ : Progress} → Low m p p′ → (hides m ≡ true → Over p × Over p′) → Close (kept m p) (kept m p′)
 unfolding kept
@@ -157,7 +153,7 @@ otherVars r w = withRun (withVars (runIn r) w) r
 
 pub data LowEqual : Runner → Runner → Type 0 where
   same : {r : Runner} → LowEqual r r
-  apart : {r : Runner} {m : Mode} (w : List ℕ) → r .state ≡ 1 → Watched m (runIn r) → (hides m ≡ true → r .steps < r .limit) → Agree (r .marks) (r .vars) w
+  apart : {r : Runner} {m : Mode} (w : List ℕ) → r .state ≡ 1 → Watched m (r .mode) (r .counter) → (hides m ≡ true → r .steps < r .limit) → Agree (r .marks) (r .vars) w
       → LowEqual r (otherVars r w)
 
 resumed-low : (r : Runner) (w : List ℕ) → r .state ≡ 1 → {p p′ : Progress} → Close p p′ → LowEqual (resumed p r) (resumed p′ (otherVars r w))
@@ -176,7 +172,7 @@ unfolding progressReply
 progress-close k close = refl
 progress-close k (still-apart w s h) = refl
 
-module _ (r : Runner) (w : List ℕ) (s : r .state ≡ 1) {m : Mode} (g : Watched m (runIn r)) (b : hides m ≡ true → r .steps < r .limit)
+module _ (r : Runner) (w : List ℕ) (s : r .state ≡ 1) {m : Mode} (g : Watched m (r .mode) (r .counter)) (b : hides m ≡ true → r .steps < r .limit)
     (h : Agree (r .marks) (r .vars) w) where
   ran-close : (k : ℕ) → check (advance k) (standingOf r) ≡ Done → Close (ran k r) (ran k (otherVars r w))
   ran-close k e = by g (run-low (flowIn r) k (runs-apart {q = runIn r} w g h)) b
@@ -184,7 +180,7 @@ module _ (r : Runner) (w : List ℕ) (s : r .state ≡ 1) {m : Mode} (g : Watche
       enough : leastIn r ≤ k
       enough = advance-enough k (standingOf r) e .1
 
-      by : {m : Mode} → Watched m (runIn r)
+      by : {m : Mode} → Watched m (r .mode) (r .counter)
           → Low m (run (flowIn r) k (going (runIn r))) (run (flowIn r) k (going (withVars (runIn r) w)))
           → (hides m ≡ true → r .steps < r .limit)
           → Close (ran k r) (ran k (otherVars r w))

@@ -3,9 +3,11 @@ use Prim.Native.Nat.{ℕ, _+_, _-_, _^_}
 use mathlib.Core.Path.{_≡_}
 use mathlib.Core.List.{List, [], _∷_, List·Memᴰ}
 use mathlib.Core.Logic.{_≢_}
-use mathlib.Core.Bool.{true, false}
+use mathlib.Core.Bool.{true, false, _&&_, _||_}
+use lib.Dec.{eqb}
 use lib.ListN.{length, getD}
 use Rattle.chart_claims.specs.Bounds.{ChartBounds}
+use Rattle.marks.specs.Marks.{union, setMark}
 use Rattle.begin.specs.Begin.{effective, has, allows}
 use Rattle.calls.specs.Calls.{Call, load, advance, answer, writeBack}
 use Rattle.runner.specs.declared.Runner.{Runner}
@@ -15,7 +17,7 @@ use Rattle.claims.specs.Lists.{Reached, Accepted, begun, tells, final, A
 use Rattle.claims.specs.Demand3.{Begins, SameLimit, tellsValue, SomeAnswer}
 use Rattle.claims.specs.Runs.{NotHighWater, AfterBegin, stepsTold}
 use Rattle.claims.specs.Charts.{AllKeepChart}
-use Rattle.claims.specs.Sets.{namedTold}
+use Rattle.claims.specs.Sets.{anyMarked, namedTold}
 
 -- Demand 3's second half: after one advance by exactly the limit an answer tells the value that high-water told.
 abbrev pub AnswersAtTheLimit : Type 0
@@ -73,3 +75,9 @@ NamesWithinBounds =
     AllTold
     (λ r mode allowed limit reply. (has (namedTold reply) (r .header .inputs) ≡ false)
     × ((j : ℕ) → allows allowed j ≡ true → has (namedTold reply) j ≡ false))
+
+-- A number with one bit keeps that input alone of the old set, and two sets read are there whole.
+abbrev pub KeepsOneInput : Type 0
+KeepsOneInput =
+    (i before a b j : ℕ)
+    → has (setMark (2 ^ i) before (union (a ∷ b ∷ []))) j ≡ (anyMarked (has a j ∷ has b j ∷ []) || (has before j && eqb i j))

@@ -1,14 +1,15 @@
--- Claims about the marks as sets of withheld inputs (02, a), and about the sets that notices name.
-use Prim.Native.Nat.{ℕ, _≤_, _<_}
+-- Claims about the marks as sets of withheld inputs (02, a), about how they are set (02, e), and about the sets that notices name.
+use Prim.Native.Nat.{ℕ, _^_, _≤_, _<_}
 use mathlib.Core.Path.{_≡_}
 use mathlib.Core.List.{List, [], _∷_, map}
 use mathlib.Core.Bool.{Bool, true, false, cond, not, _&&_, _||_}
 use lib.Dec.{eqb, ltb}
 use lib.ListN.{getD}
 use Rattle.decode.specs.Decode.{Box}
-use Rattle.marks.specs.Marks.{marked, union, targetMark, decisionNotice, counterMark, haltNotice}
+use Rattle.marks.specs.Marks.{marked, union, targetMark, setMark, numbersOf, setBy, decisionNotice, counterMark, haltNotice}
 use Rattle.marks.specs.declared.Mode.{Mode}
 use Rattle.marks.specs.declared.Mode.the-variants.{Bare, Surveillance, HighWater}
+use Rattle.marks.specs.declared.Numbers.{Numbers}
 use Rattle.machine.specs.Run.{Run, Ending, valued, notice, spent, Progress, going, over, run}
 use Rattle.begin.specs.Begin.{has, allows, firstMarks}
 use Rattle.runner.specs.State.{namedIn, runIn}
@@ -65,6 +66,27 @@ SetsAreUnions =
     (j : ℕ)
     → ((allowed k v : ℕ) → k ≤ 16 → has (getD (firstMarks allowed k) v 0) j ≡ ((ltb v k && not (allows allowed v)) && eqb v j))
     × SeenAsMarks (λ set. has set j)
+
+-- 02, e: "for every such number, that it gives the union of the sets read and the kept part of the old set, and nothing else". Bit by bit: input j is in the new set
+-- exactly if it is in a set read, or in the old set and in the number; and so by any two numbers, of which the other says what is taken of the sets read.
+abbrev pub UnionAndKept : Type 0
+UnionAndKept =
+    (before : ℕ) (read : List ℕ) (j : ℕ)
+    → let isRead = anyMarked (map (λ set. has set j) read) in
+    ((keep : ℕ) → has (setMark keep before (union read)) j ≡ (isRead || (has before j && has keep j)))
+    × ((numbers : Numbers) → has (setBy numbers before (union read)) j ≡ ((isRead && has (numbers .take) j) || (has before j && has (numbers .keep) j)))
+
+-- "one piece of arithmetic for both modes": by 0 it is the rule of surveillance, and by 65,535, on an old set of 16 inputs, that of the high-water mark.
+abbrev pub OneArithmetic : Type 0
+OneArithmetic =
+    (before : ℕ) (read : List ℕ)
+    → (setMark 0 before (union read) ≡ targetMark Surveillance before (union read))
+    × (before < 2 ^ 16 → setMark 65535 before (union read) ≡ targetMark HighWater before (union read))
+
+-- By the numbers of its mode the arithmetic is the rule of every mode, bare too, on sets of 16 inputs.
+abbrev pub SetAsRuled : Type 0
+SetAsRuled =
+    (mode : Mode) (before : ℕ) (read : List ℕ) → before < 2 ^ 16 → union read < 2 ^ 16 → setBy (numbersOf mode) before (union read) ≡ targetMark mode before (union read)
 
 -- A set seen as a mark, 1 or 0, and so all those of a run and of what it comes to.
 abbrev pub asMark : ℕ → ℕ

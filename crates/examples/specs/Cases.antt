@@ -9,6 +9,8 @@ use Rattle.format.specs.Block.{checksum}
 use Rattle.format.specs.File.{headerOf, checkFile}
 use Rattle.format.specs.declared.Checked.{Checked}
 use Rattle.operations.specs.Operation.{readBy, valueOf}
+use Rattle.marks.specs.Marks.{union, setBy}
+use Rattle.marks.specs.declared.Numbers.{Numbers}
 use Rattle.machine.specs.Run.{Ending}
 use Rattle.begin.specs.Begin.{effective}
 use Rattle.calls.specs.Calls.{load, begin, advance, answer, writeBack}
@@ -17,13 +19,15 @@ use Rattle.runner.specs.Outcomes.{Reply, done, chart, ended, ending, wrote, Tol
 use Rattle.claims.specs.Lists.{tells}
 
 -- A file and the answer of load's input checks; a file that is loaded and written back to itself; a chart's file, what begin is given, and the ending with its
--- steps; an operation of an edition, its operands and its result; or what a block's check adds, the block, and its check.
+-- steps; an operation of an edition, its operands and its result; what a block's check adds, the block, and its check; or two numbers, whose bits are the inputs to
+-- keep and to take, the old set, the sets read, and the new set.
 pub data Case : Type 0 where
   answers : (file : List ℕ) → Checked → Case
   returns : (file : List ℕ) → Case
   runs : (file : List ℕ) (mode : ℕ) (inputs : List ℕ) (allowed limit : ℕ) → Ending → (steps : ℕ) → Case
   operates : (edition op left right result : ℕ) → Case
   checks : (added : ℕ) (block : List ℕ) (check : ℕ) → Case
+  sets : Numbers → (before : ℕ) (read : List ℕ) (set : ℕ) → Case
 
 -- What a case gives: the answer of the checks, what calls tell, or a number.
 pub data Given : Type 0 where
@@ -32,7 +36,7 @@ pub data Given : Type 0 where
   number : ℕ → Given
 
 -- What the definitions give: what the checks answer; what a new runner tells for load and write back into as many bytes, all 0; for load, begin, advance to the
--- limit and answer; the operation's result; the block's check.
+-- limit and answer; the operation's result; the block's check; the new set.
 unfoldable pub gives : Case → Given
 gives (answers file so) = checked (checkFile file)
 gives (returns file) = told (tells (load file ∷ writeBack (replicate (length file) 0) ∷ []) newRunner)
@@ -40,6 +44,7 @@ gives (runs file mode inputs allowed limit e steps) =
     told (tells (load file ∷ begin mode inputs allowed limit ∷ advance (effective limit) ∷ answer ∷ []) newRunner)
 gives (operates edition op left right result) = number (valueOf edition op 0 (readBy edition op left right))
 gives (checks added block check) = number (checksum added block)
+gives (sets numbers before read set) = number (setBy numbers before (union read))
 
 -- Replies where no byte is lent to be written.
 abbrev pub replied : List Reply → List Told
@@ -71,6 +76,7 @@ expected (runs file mode inputs allowed limit e steps) =
     told (replied (loaded file ∷ done ∷ ended (stepsAtTheEnd mode steps) ∷ ending e steps ∷ []))
 expected (operates edition op left right result) = number result
 expected (checks added block check) = number check
+expected (sets numbers before read set) = number set
 
 -- A table of so many cases, each of which gives what is expected.
 abbrev pub Table : ℕ → List Case → Type 0

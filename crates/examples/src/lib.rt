@@ -3,6 +3,7 @@ ghost use Rattle.examples.specs.Files.{FileExamples};
 ghost use Rattle.examples.specs.Runs.{MarkedCases, NamingCases, HiddenCases};
 ghost use Rattle.examples.specs.Editions.{EditionCases};
 ghost use Rattle.examples.specs.Checks.{CheckCases, BlocksExchanged};
+ghost use Rattle.examples.specs.Keeping.{KeepingCases};
 ghost use Rattle.examples.specs.Refuted.{BareIsNotSecret, AnotherModeIsTold, AnotherLimitIsTold, BareAnswersMore, SmallerLimitAnswersLess};
 ghost use Rattle.examples.specs.Refuted.{AdvancesPartAtTheEnd, NoLoadDuringARun, AnotherLoadIsTold, HighWaterNamesNone, SurveillanceNamesSome};
 ghost use Rattle.examples.specs.Refuted.{HighWaterAdvancesPart, HighWaterSumEndsNothing, HighWaterCountsNoBoxes, SurveillanceTellsCounts};
@@ -10,7 +11,7 @@ ghost use Rattle.examples.specs.Witnesses.{SecrecyIsMet, NoticeIsTold, S
 
 // The claims of this crate. A claim counts where a contract holds it: without this function the theorems could be deleted, and nothing would fail.
 pub fn promised()
-    ensures { λ _. ⌜ FileExamples × MarkedCases × NamingCases × HiddenCases × EditionCases × CheckCases × BlocksExchanged
+    ensures { λ _. ⌜ FileExamples × MarkedCases × NamingCases × HiddenCases × EditionCases × CheckCases × KeepingCases × BlocksExchanged
         × BareIsNotSecret × AnotherModeIsTold × AnotherLimitIsTold × BareAnswersMore × SmallerLimitAnswersLess
         × AdvancesPartAtTheEnd × NoLoadDuringARun × AnotherLoadIsTold × HighWaterNamesNone × SurveillanceNamesSome
         × HighWaterAdvancesPart × HighWaterSumEndsNothing × HighWaterCountsNoBoxes × SurveillanceTellsCounts

@@ -1,5 +1,5 @@
 -- The act of a box, by its kind and what the code computed of it. Assumes nothing.
-use Prim.Native.Nat.{ℕ}
+use Prim.Native.Nat.{ℕ, _^_, _<_}
 use mathlib.Core.Path.{_≡_, ap, sym, _∙_}
 use mathlib.Core.List.{List, [], _∷_}
 use mathlib.Core.Bool.{Bool, cond}
@@ -7,51 +7,67 @@ use lib.Bits.{bitOr, or-zero-r}
 use borrow.Author.Tests.{eq-eqb, ne-eqb}
 use Rattle.operations.specs.Operation.{readBy, valueOf, compares}
 use Rattle.operations.proofs.ReadLaws.{read-map}
-use Rattle.marks.specs.Marks.{union, targetMark, decisionNotice, counterMark, haltNotice, namedBy}
+use Rattle.marks.specs.Marks.{union, targetMark, numbersOf, setBy, decisionNotice, counterMark, haltNotice, namedBy}
 use Rattle.marks.specs.declared.Mode.{Mode}
+use Rattle.marks.specs.declared.Numbers.{Numbers}
+use Rattle.marks.proofs.MarkLaws.{set-by-mode}
 use Rattle.decode.specs.Decode.{meaning}
 use Rattle.decode.specs.declared.FlowBox.{FlowBox}
 use Rattle.decode.specs.declared.FlowBox.the-variants.{Assign, Decide, Halt}
 use Rattle.machine.specs.Act.{entry, entries, act}
 use Rattle.machine.specs.declared.Act.the-variants.{Store, Go, Value, Notice}
+use Rattle.machine.specs.declared.Marked.{Marked}
 
 module _ (edition : ℕ) (mode : Mode) (b : FlowBox) (vars marks : List ℕ) (counter : ℕ) where
   by-kind : (x : FlowBox) → b ≡ x → act mode (meaning edition b) vars marks counter ≡ act mode (meaning edition x) vars marks counter
   by-kind x d = ap (λ (y : FlowBox). act mode (meaning edition y) vars marks counter) d
 
-  pub assign-act : (t op i j next k v read m : ℕ) → b ≡ Assign t op i j next k
-      → v ≡ valueOf edition op k (readBy edition op (entry vars i) (entry vars j))
-      → read ≡ union (readBy edition op (entry marks i) (entry marks j))
-      → m ≡ targetMark mode (entry marks t) read
-      → Store t v m next ≡ act mode (meaning edition b) vars marks counter
+  -- What the code reads of a variable: its value, and its mark, of 16 inputs.
+  abbrev IsAt : Marked → ℕ → Type 0
+  IsAt x v = (x .value ≡ entry vars v) × (x .mark ≡ entry marks v) × (x .mark < 2 ^ 16)
+
+  pub assign-act : (t op i j next k m : ℕ) (left right given before : Marked) (numbers : Numbers)
+      → numbers ≡ numbersOf mode
+      → b ≡ Assign t op i j next k
+      → IsAt left i
+      → IsAt right j
+      → IsAt before t
+      → (given .value ≡ valueOf edition op k (readBy edition op (left .value) (right .value)))
+      × (given .mark ≡ union (readBy edition op (left .mark) (right .mark)))
+      → m ≡ setBy numbers (before .mark) (given .mark)
+      → given .mark < 2 ^ 16
+      → Store t (given .value) m next ≡ act mode (meaning edition b) vars marks counter
   unfolding act meaning
-  assign-act t op i j next k v read m d ev er em =
-      let value : valueOf edition op k (entries vars (readBy edition op i j)) ≡ v = ap (valueOf edition op k) (read-map (entry vars) edition op i j) ∙ sym ev in
-      let mark : union (entries marks (readBy edition op i j)) ≡ read = ap union (read-map (entry marks) edition op i j) ∙ sym er in
-      sym (by-kind _ d ∙ rw (value, mark, em))
+  assign-act t op i j next k m left right given before numbers s d l r o g e small =
+      let mark : m ≡ targetMark mode (before .mark) (given .mark) =
+      e ∙ ap (λ (x : Numbers). setBy x (before .mark) (given .mark)) s ∙ set-by-mode mode (before .mark) (given .mark) (o .2) small in
+      sym (by-kind _ d
+      ∙ rw (read-map (entry vars) edition op i j, read-map (entry marks) edition op i j, ← l .0, ← r .0, ← l .1, ← r .1, ← o .1, ← g .0, ← g .1, ← mark))
 
   both : (i j : ℕ) → union (entries marks (i ∷ j ∷ [])) ≡ bitOr (entry marks i) (entry marks j)
   unfolding union
   both i j = rw or-zero-r
 
-  module _ (c i j next other n : ℕ) (d : b ≡ Decide c i j next other) (en : n ≡ decisionNotice mode (bitOr (entry marks i) (entry marks j))) where
+  module _ (c i j next other n : ℕ) (left right : Marked) (d : b ≡ Decide c i j next other) (l : IsAt left i) (r : IsAt right j)
+      (en : n ≡ decisionNotice mode (bitOr (left .mark) (right .mark))) where
     pub notice-act : (named : ℕ) → (n ≡ 0 → ⊥) → named ≡ namedBy mode n → Notice named ≡ act mode (meaning edition b) vars marks counter
     unfolding act meaning
-    notice-act named e em = sym (by-kind _ d ∙ rw (both i j, sym en, ne-eqb n 0 e, em))
+    notice-act named e em = sym (by-kind _ d ∙ rw (both i j, ← l .1, ← r .1, ← en, ne-eqb n 0 e, em))
 
     pub go-act : (after to : ℕ) (holds : Bool) → n ≡ 0
-        → after ≡ counterMark mode counter (bitOr (entry marks i) (entry marks j))
-        → holds ≡ compares c (entry vars i ∷ entry vars j ∷ [])
+        → after ≡ counterMark mode counter (bitOr (left .mark) (right .mark))
+        → holds ≡ compares c (left .value ∷ right .value ∷ [])
         → to ≡ cond holds next other
         → Go to after ≡ act mode (meaning edition b) vars marks counter
     unfolding act meaning
-    go-act after to holds e ec eh et = sym (by-kind _ d ∙ rw (both i j, sym en, eq-eqb n 0 e, et, eh, ec))
+    go-act after to holds e ec eh et =
+        sym (by-kind _ d ∙ rw (both i j, ← l .0, ← r .0, ← l .1, ← r .1, ← en, eq-eqb n 0 e, et, eh, ec))
 
-  module _ (n : ℕ) (d : b ≡ Halt) (en : n ≡ haltNotice mode counter (entry marks 31)) where
+  module _ (n : ℕ) (output : Marked) (d : b ≡ Halt) (o : IsAt output 31) (en : n ≡ haltNotice mode counter (output .mark)) where
     pub halt-notice-act : (named : ℕ) → (n ≡ 0 → ⊥) → named ≡ namedBy mode n → Notice named ≡ act mode (meaning edition b) vars marks counter
     unfolding act meaning
-    halt-notice-act named e em = sym (by-kind _ d ∙ rw (sym en, ne-eqb n 0 e, em))
+    halt-notice-act named e em = sym (by-kind _ d ∙ rw (← o .1, ← en, ne-eqb n 0 e, em))
 
-    pub halt-value-act : (v : ℕ) → v ≡ entry vars 31 → n ≡ 0 → Value v ≡ act mode (meaning edition b) vars marks counter
+    pub halt-value-act : n ≡ 0 → Value (output .value) ≡ act mode (meaning edition b) vars marks counter
     unfolding act meaning
-    halt-value-act v ev e = sym (by-kind _ d ∙ rw (sym en, eq-eqb n 0 e, ev))
+    halt-value-act e = sym (by-kind _ d ∙ rw (← o .0, ← o .1, ← en, eq-eqb n 0 e))

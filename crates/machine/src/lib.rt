@@ -1,12 +1,14 @@
-// What one box of a chart does, by the edition of the chart, the mode, the variables, their marks and the counter mark.
+// What one box of a chart does, by the edition of the chart, the mode and its numbers, the variables, their marks and the counter mark.
 use decode::FlowBox;
 use marks::Mode;
+use marks::Numbers;
+ghost use Prim.Native.Nat.{_^_, _<_};
 ghost use mathlib.Core.Path.{_≡_};
 ghost use mathlib.Core.Bool.{cond};
 ghost use Rattle.operations.specs.Operation.{readBy, valueOf};
 ghost use Rattle.decode.specs.Decode.{meaning};
-ghost use Rattle.marks.specs.Marks.{union};
-ghost use Rattle.machine.specs.Act.{act};
+ghost use Rattle.marks.specs.Marks.{union, numbersOf};
+ghost use Rattle.machine.specs.Act.{entry, act};
 
 // It stores a value and a mark, it goes to a box with a counter mark, or it ends the run with a value or with a notice that names these inputs.
 pub enum Act {
@@ -62,11 +64,19 @@ fn operate(edition: u8, op: u8, constant: u32, left: Marked, right: Marked) -> M
     }
 }
 
-// A value with a mark, for the arms of `operate`.
+// A value with a mark. That it is of 16 inputs is promised, since on those alone the arithmetic that sets a mark is the rule of its mode.
 fn with_mark(value: u32, mark: u16) -> Marked
-    ensures { λ r. ⌜ (r .value ≡ value) × (r .mark ≡ mark) ⌝ }
+    ensures { λ r. ⌜ (r .value ≡ value) × (r .mark ≡ mark) × (r .mark < 2 ^ 16) ⌝ }
 {
     Marked { value, mark }
+}
+
+// The value and the mark of a variable, by its number.
+fn variable<'a>(vars: &'a [u32; 32], marks: &'a [u16; 32], v: u8) -> Marked
+    ensures { λ r. ⌜ (r .value ≡ entry (now (vars .entry)) v) × (r .mark ≡ entry (now (marks .entry)) v) × (r .mark < 2 ^ 16) ⌝ }
+{
+    let i = (v % 32) as usize;
+    with_mark(vars[i], marks[i])
 }
 
 fn way(holds: bool, next: u8, other: u8) -> u8
@@ -75,15 +85,17 @@ fn way(holds: bool, next: u8, other: u8) -> u8
     if holds { next } else { other }
 }
 
+// What the box does, where the numbers are those of the mode; of others nothing is promised.
 pub fn run_box<'a>(
     edition: u8,
     mode: Mode,
+    numbers: Numbers,
     b: FlowBox,
     vars: &'a [u32; 32],
     marks: &'a [u16; 32],
     counter: u16,
 ) -> Act
-    ensures { λ r. ⌜ r ≡ act mode (meaning edition b) (now (vars .entry)) (now (marks .entry)) counter ⌝ }
+    ensures { λ r. ⌜ (numbers ≡ numbersOf mode → r ≡ act mode (meaning edition b) (now (vars .entry)) (now (marks .entry)) counter) ⌝ }
 {
     match b {
         FlowBox::Assign {
@@ -94,19 +106,11 @@ pub fn run_box<'a>(
             next,
             constant,
         } => {
-            let t = (target % 32) as usize;
-            let i = (left % 32) as usize;
-            let j = (right % 32) as usize;
-            let left = Marked {
-                value: vars[i],
-                mark: marks[i],
-            };
-            let right = Marked {
-                value: vars[j],
-                mark: marks[j],
-            };
+            let left = variable(vars, marks, left);
+            let right = variable(vars, marks, right);
             let given = operate(edition, op, constant, left, right);
-            let mark = marks::target_mark(mode, marks[t], given.mark);
+            let before = variable(vars, marks, target);
+            let mark = marks::set_mark(numbers, before.mark, given.mark);
             Act::Store {
                 target,
                 value: given.value,
@@ -121,14 +125,14 @@ pub fn run_box<'a>(
             next,
             other,
         } => {
-            let i = (left % 32) as usize;
-            let j = (right % 32) as usize;
-            let read = marks[i] | marks[j];
+            let left = variable(vars, marks, left);
+            let right = variable(vars, marks, right);
+            let read = left.mark | right.mark;
             let stops = marks::decision_notice(mode, read);
             if stops != 0 {
                 return Act::Notice(marks::named_by(mode, stops));
             }
-            let holds = operations::compare(comparison, vars[i], vars[j]);
+            let holds = operations::compare(comparison, left.value, right.value);
             let to = way(holds, next, other);
             let after = marks::counter_mark(mode, counter, read);
             Act::Go {
@@ -137,12 +141,12 @@ pub fn run_box<'a>(
             }
         }
         FlowBox::Halt => {
-            let ends = marks::halt_notice(mode, counter, marks[31]);
+            let output = variable(vars, marks, 31);
+            let ends = marks::halt_notice(mode, counter, output.mark);
             if ends != 0 {
                 return Act::Notice(marks::named_by(mode, ends));
             }
-            let output = vars[31];
-            Act::Value(output)
+            Act::Value(output.value)
         }
     }
 }

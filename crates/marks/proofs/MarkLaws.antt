@@ -1,13 +1,14 @@
 -- Laws of the marks: a union is no mark exactly where each of its parts is none, `marked` tells which mark is one, and a rule by the mode has what its
--- entries have. or-none, or-zeros; union-none; marked-none, none-marked, marked-or; by-mode. Assumes nothing.
-use Prim.Native.Nat.{ℕ}
+-- entries have; and the arithmetic that sets a mark is the rule of its mode. or-none, or-zeros; union-none; marked-none, none-marked, marked-or; by-mode, by-map;
+-- set-surveillance, set-high-water, set-by-mode. Assumes nothing.
+use Prim.Native.Nat.{ℕ, _^_, _<_}
 use mathlib.Core.Path.{_≡_, refl, sym, _∙_}
 use mathlib.Core.List.{List, _∷_}
 use mathlib.Core.Bool.{Bool, true, false, _||_}
 use native.Mathlib.Omega.{arith}
-use lib.Bits.{bitOr, or-add-and, or-zero-l, and-le-l, and-le-r}
+use lib.Bits.{bitAnd, bitOr, or-add-and, or-comm, or-zero-l, or-zero-r, and-le-l, and-le-r, and-mask, and-zero-r}
 use borrow.Author.Tests.{eqb-true, eq-eqb, not-false}
-use Rattle.marks.specs.Marks.{marked, union, byMode}
+use Rattle.marks.specs.Marks.{marked, union, byMode, targetMark, setMark, numbersOf, setBy}
 use Rattle.marks.specs.declared.Mode.{Mode}
 use Rattle.marks.specs.declared.Mode.the-variants.{Bare, Surveillance, HighWater}
 
@@ -35,7 +36,27 @@ marked-or a b = on (marked a) refl (marked (bitOr a b)) refl
     on true e false f = sym (none-marked a (or-none a b (marked-none _ f) .0)) ∙ e
     on false e y f = sym f ∙ rw (marked-none a e, or-zero-l)
 
-pub by-mode : (P : ℕ → Type 0) (m : Mode) (a b c : ℕ) → P a → P b → P c → P (byMode m a b c)
+-- What holds of each entry of a rule by the mode, in its mode, holds of the rule; and a rule seen through a function is the rule of what is seen.
+pub by-mode : (P : Mode → ℕ → Type 0) (m : Mode) (a b c : ℕ) → P Bare a → P Surveillance b → P HighWater c → P m (byMode m a b c)
 by-mode P Bare a b c x y z = x
 by-mode P Surveillance a b c x y z = y
 by-mode P HighWater a b c x y z = z
+
+pub by-map : {A : Type 0} (f : ℕ → A) (m : Mode) (a b c : ℕ) → f (byMode m a b c) ≡ byMode m (f a) (f b) (f c)
+by-map f m a b c = by-mode (λ k x. f x ≡ byMode k (f a) (f b) (f c)) m a b c refl refl refl
+
+-- A set of 16 inputs and all 16 is the set.
+and-all : (set : ℕ) → set < 2 ^ 16 → bitAnd set 65535 ≡ set
+and-all set l = omega (arith, and-mask set 16)
+
+-- The arithmetic by a mode's number is the rule of the mode, and so in every mode by both of its numbers.
+pub set-surveillance : (before read : ℕ) → setMark 0 before read ≡ targetMark Surveillance before read
+set-surveillance before read = rw (and-zero-r, or-zero-r)
+
+pub set-high-water : (before read : ℕ) → before < 2 ^ 16 → setMark 65535 before read ≡ targetMark HighWater before read
+set-high-water before read b = rw (and-all before b, or-comm read before)
+
+pub set-by-mode : (m : Mode) (before read : ℕ) → before < 2 ^ 16 → read < 2 ^ 16 → setBy (numbersOf m) before read ≡ targetMark m before read
+set-by-mode Bare before read b r = rw (and-zero-r, or-zero-l, and-all before b)
+set-by-mode Surveillance before read b r = rw (and-all read r) (set-surveillance before read)
+set-by-mode HighWater before read b r = rw (and-all read r) (set-high-water before read b)

@@ -3,10 +3,11 @@
 use Prim.Native.Nat.{ℕ}
 use mathlib.Core.List.{List, [], _∷_}
 use mathlib.Core.Bool.{Bool, true, false, cond, not}
-use lib.Bits.{bitOr}
+use lib.Bits.{bitAnd, bitOr}
 use lib.Dec.{eqb}
 use Rattle.marks.specs.declared.Mode.{Mode}
 use Rattle.marks.specs.declared.Mode.the-variants.{Bare, Surveillance, HighWater}
+use Rattle.marks.specs.declared.Numbers.{Numbers}
 
 -- "mode (0 bare, 1 surveillance, 2 high-water)". No begin with a greater number is accepted; it would read as high-water.
 unfoldable pub modeOf : ℕ → Mode
@@ -32,6 +33,18 @@ byMode HighWater bare surveillance highWater = highWater
 -- the target or any variable read is marked."
 abbrev pub targetMark : Mode → (before read : ℕ) → ℕ
 targetMark mode before read = byMode mode before read (bitOr before read)
+
+-- 02, e: the target's new set "from one piece of arithmetic for both modes": the sets read, and of the old set what is in `keep`, "a 16-bit number whose bits say
+-- which inputs of the old set to keep".
+abbrev pub setMark : (keep before read : ℕ) → ℕ
+setMark keep before read = bitOr read (bitAnd before keep)
+
+-- The numbers of a mode: which inputs to keep, "(0 under surveillance, 65,535 under high-water)", and which to take of the sets read. Bare keeps all and takes none.
+abbrev pub numbersOf : Mode → Numbers
+numbersOf mode = record { keep = byMode mode 65535 0 65535; take = byMode mode 0 65535 65535 }
+
+abbrev pub setBy : Numbers → (before read : ℕ) → ℕ
+setBy numbers before read = setMark (numbers .keep) before (bitAnd read (numbers .take))
 
 -- The marks for which a decision gives a notice, 0 where it goes on. Surveillance: "A decision that reads a marked variable ends with a notice, and
 -- no comparison is made."

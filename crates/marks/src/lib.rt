@@ -1,7 +1,7 @@
 // The modes: what an assignment leaves on its target, what a decision and a halt do, and whether counts are hidden. A mark is a set of withheld inputs, a number
 // whose bit j is input j; 0 is no mark.
 ghost use mathlib.Core.Path.{_≡_};
-ghost use Rattle.marks.specs.Marks.{modeOf, byMode, targetMark, decisionNotice, counterMark, haltNotice, namedBy, hides};
+ghost use Rattle.marks.specs.Marks.{modeOf, byMode, numbersOf, setBy, decisionNotice, counterMark, haltNotice, namedBy, hides};
 
 pub enum Mode {
     Bare,
@@ -31,11 +31,26 @@ fn by_mode(mode: Mode, bare: u16, surveillance: u16, high: u16) -> u16
     }
 }
 
-// The mark of the target after an assignment, from its mark before and the marks read.
-pub fn target_mark(mode: Mode, before: u16, read: u16) -> u16
-    ensures { λ m. ⌜ m ≡ targetMark mode before read ⌝ }
+// The numbers by which an assignment in a mode sets its target's mark: which inputs it keeps of the old set, and which it takes of the sets read.
+pub struct Numbers {
+    keep: u16,
+    take: u16,
+}
+
+// Bare keeps all and takes none, so that a mark stays.
+pub fn numbers_of(mode: Mode) -> Numbers
+    ensures { λ r. ⌜ r ≡ numbersOf mode ⌝ }
 {
-    by_mode(mode, before, read, before | read)
+    let keep = by_mode(mode, 65535, 0, 65535);
+    let take = by_mode(mode, 0, 65535, 65535);
+    Numbers { keep, take }
+}
+
+// The mark of the target after an assignment: what is taken of the marks read, and what is kept of its mark before.
+pub fn set_mark(numbers: Numbers, before: u16, read: u16) -> u16
+    ensures { λ m. ⌜ m ≡ setBy numbers before read ⌝ }
+{
+    (read & numbers.take) | (before & numbers.keep)
 }
 
 // The marks for which a decision that reads these ends the run with a notice; 0 where it goes on.

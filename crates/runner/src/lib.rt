@@ -191,6 +191,7 @@ impl Runner {
     {
         let limit = self.limit as u32;
         let mode = marks::mode_of(self.mode);
+        let numbers = marks::numbers_of(mode);
         let hidden = marks::hides(mode);
         let verdict = calls::check_advance(self.state == 1, choose(hidden, limit, 0), m);
         let mut todo = amount(verdict, m);
@@ -204,7 +205,15 @@ impl Runner {
             steps = steps + 1;
             let b = decode::box_at(&self.table, at);
             let edition = self.header.edition;
-            let done = machine::run_box(edition, mode, b, &self.vars, &self.marks, self.counter);
+            let done = machine::run_box(
+                edition,
+                mode,
+                numbers,
+                b,
+                &self.vars,
+                &self.marks,
+                self.counter,
+            );
             match done {
                 Act::Store {
                     target,

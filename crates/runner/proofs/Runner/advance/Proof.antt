@@ -1,12 +1,12 @@
 -- The loop's invariant: the boxes still to run, from here, come to what the boxes asked for come to from the start; the runner differs from the one
--- at the start in what boxes store alone, and no ending is met. Where the arms of a box that does not end the run meet, one law says what it left.
+-- at the start in what boxes store alone, no ending is met, and the numbers are those of the mode. Where the arms of a box that does not end the run meet, one law says what it left.
 use mathlib.Core.Path.{_≡_, refl, ap, sym, _∙_}
 use mathlib.Core.Logic.{⊎-elim, inl}
 use mathlib.Core.Bool.{Bool, cond}
 use Prim.Native.Nat.{_+_, _≤_, _<_, _^_}
 use native.Mathlib.Omega.{arith}
 use borrow.Author.Needs.{needs}
-use Rattle.marks.specs.Marks.{modeOf, hides}
+use Rattle.marks.specs.Marks.{modeOf, numbersOf, hides}
 use Rattle.machine.specs.Run.{valued, notice, spent, going, goesOn, settle, step, run}
 use Rattle.machine.proofs.Runs.{run-none}
 use Rattle.runner.specs.declared.Runner.{Runner}
@@ -17,7 +17,7 @@ use Rattle.runner.proofs.Runner.advance.Statement.{statement}
 use Rattle.runner.proofs.Runner.advance.Tie as tie
 
 abbrev Inv-loop : tie.InvT-loop
-Inv-loop m self₀ limit mode hidden verdict todo₀ at₀ steps₀ end₀ value₀ named₀ self todo at steps end value named =
+Inv-loop m self₀ limit mode numbers hidden verdict todo₀ at₀ steps₀ end₀ value₀ named₀ self todo at steps end value named =
     (run (flowIn self₀) todo₀ (going (runIn self₀)) ≡ run (flowIn self₀) todo (going (seen self at steps)))
     × (todo ≤ todo₀)
     × Stored self₀ self
@@ -28,23 +28,24 @@ Inv-loop m self₀ limit mode hidden verdict todo₀ at₀ steps₀ end₀ value
     × (value ≡ 0)
     × (named ≡ 0)
     × (limit < 2 ^ 16)
+    × (numbers ≡ numbersOf mode)
 
 abbrev μ-loop : tie.MeasureT-loop
-μ-loop m self₀ limit mode hidden verdict todo₀ at₀ steps₀ end₀ value₀ named₀ self todo at steps end value named = todo
+μ-loop m self₀ limit mode numbers hidden verdict todo₀ at₀ steps₀ end₀ value₀ named₀ self todo at steps end value named = todo
 
 -- Where the arms of a box that does not end the run meet: it goes on in what was stored.
 meets : (c : tie.At-match-came Inv-loop μ-loop) → let at-loop = c .before .before .before .before .before .before .before .before .before in
-    let l = at-loop .loop in let r = at-loop .before .before .before .before .before .before .args .t1 in
+    let l = at-loop .loop in let r = at-loop .before .before .before .before .before .before .before .args .t1 in
     (step (flowIn r) (seen (l .self) (l .at) (l .steps)) ≡ goesOn (seen (c .match .self) (c .match .at) (l .steps + 1))) × Stored r (c .match .self)
 unfolding settle
 meets c =
     let at-loop = c .before .before .before .before .before .before .before .before .before in
     let l = at-loop .loop in
-    let r = at-loop .before .before .before .before .before .before .args .t1 in
+    let r = at-loop .before .before .before .before .before .before .before .args .t1 in
     let stored = l .inv .2 in
     let box = c .before .before .before .before .before .box-at in
     let done = c .before .run-box in
-    let does = acts (l .self) r _ _ (l .at) (l .steps) (box .result) (done .result) stored (ap (λ (x : Runner). x .header .edition) stored) (l .inv .4) (box .ensures) (done .ensures) in
+    let does = acts (l .self) r _ _ (l .at) (l .steps) (box .result) (done .result) stored (ap (λ (x : Runner). x .header .edition) stored) (l .inv .4) (box .ensures) (done .ensures (l .inv .10)) in
     ⊎-elim
     (λ w. (
       left (flowIn r) (l .self) (c .match .self) (l .at) (l .steps) _ _ _ _ (c .match .at) (w .3) (w .4) (does _ (w .1 .given .1)),
@@ -57,13 +58,13 @@ meets c =
     (c .match .came)
 
 -- Where the loop is left: no box is to run, a halt gives a value, a decision or a halt a notice, or the limit is reached.
-over : (c : tie.Left-loop Inv-loop μ-loop) → let q = c .loop-test in let a = c .before .before .before .before .before .before .before .args in
+over : (c : tie.Left-loop Inv-loop μ-loop) → let q = c .loop-test in let a = c .before .before .before .before .before .before .before .before .args in
     CameTo (flowIn (a .t1)) (c .before .before .amount .result) (runIn (a .t1)) (q .self) (q .at) (q .end) (q .value) (q .named) (q .steps) × Stored (a .t1) (q .self)
 unfolding settle
 over c =
     let l = c .before .loop in
     let q = c .loop-test in
-    let r = c .before .before .before .before .before .before .before .args .t1 in
+    let r = c .before .before .before .before .before .before .before .before .args .t1 in
     let stored = l .inv .2 in
     ⊎-elim
     (λ w. (
@@ -73,14 +74,14 @@ over c =
     (⊎-elim
     (λ w. (
       came-over _ _ (l .todo) _ _ (l .inv .0) (w .0 .taken) (valued _) (q .self) (q .at) (q .end) (q .value) (q .named) (q .steps)
-          (acts (l .self) r _ _ (l .at) (l .steps) (w .3 .result) (w .7 .result) stored (ap (λ (x : Runner). x .header .edition) stored) (l .inv .4) (w .3 .ensures) (w .7 .ensures) _ (w .9 .given .1))
+          (acts (l .self) r _ _ (l .at) (l .steps) (w .3 .result) (w .7 .result) stored (ap (λ (x : Runner). x .header .edition) stored) (l .inv .4) (w .3 .ensures) (w .7 .ensures (l .inv .10)) _ (w .9 .given .1))
           (w .15) (w .16) (w .17 ∙ l .inv .8) (w .14),
       rw (w .11) stored,
     ))
     (⊎-elim
     (λ w. (
       came-over _ _ (l .todo) _ _ (l .inv .0) (w .0 .taken) (notice _) (q .self) (q .at) (q .end) (q .value) (q .named) (q .steps)
-          (acts (l .self) r _ _ (l .at) (l .steps) (w .3 .result) (w .7 .result) stored (ap (λ (x : Runner). x .header .edition) stored) (l .inv .4) (w .3 .ensures) (w .7 .ensures) _ (w .9 .given .1))
+          (acts (l .self) r _ _ (l .at) (l .steps) (w .3 .result) (w .7 .result) stored (ap (λ (x : Runner). x .header .edition) stored) (l .inv .4) (w .3 .ensures) (w .7 .ensures (l .inv .10)) _ (w .9 .given .1))
           (w .15) (w .16 ∙ l .inv .7) (w .17) (w .14),
       rw (w .11) stored,
     ))
@@ -104,6 +105,9 @@ cast-limit c = search needs
 mode-of-requires : tie.Need-mode-of-requires Inv-loop μ-loop
 mode-of-requires c κs = search needs
 
+numbers-of-requires : tie.Need-numbers-of-requires Inv-loop μ-loop
+numbers-of-requires c κs = search needs
+
 hides-requires : tie.Need-hides-requires Inv-loop μ-loop
 hides-requires c κs = search needs
 
@@ -125,12 +129,13 @@ loop-holds c = (
   omega arith,
   refl,
   refl,
-  c .before .before .before .before .mode-of .ensures,
+  c .before .before .before .before .before .mode-of .ensures,
   search needs,
   refl,
   refl,
   refl,
   search needs,
+  c .before .before .before .before .numbers-of .ensures,
 )
 
 sub-todo : tie.Need-sub-todo Inv-loop μ-loop
@@ -191,6 +196,7 @@ loop-again c =
       l .inv .7,
       l .inv .8,
       l .inv .9,
+      l .inv .10,
     )
 
 cast-self : tie.Need-cast-self Inv-loop μ-loop
@@ -211,8 +217,8 @@ returns c =
     let verdict = at-loop .before .before .check-advance in
     let chosen = at-loop .before .before .before .choose in
     let hidden = at-loop .before .before .before .before .hides in
-    let mode = at-loop .before .before .before .before .before .mode-of in
-    let r = at-loop .before .before .before .before .before .before .args .t1 in
+    let mode = at-loop .before .before .before .before .before .before .mode-of in
+    let r = at-loop .before .before .before .before .before .before .before .args .t1 in
     let hides-as = hidden .ensures ∙ ap hides (mode .ensures) in
     let least = chosen .ensures ∙ ap (λ (b : Bool). cond b (r .limit) 0) hides-as in
     let left = c .before .before .loop-test in
@@ -230,6 +236,7 @@ advance-spec =
     μ-loop
     cast-limit
     mode-of-requires
+    numbers-of-requires
     hides-requires
     choose-requires
     check-advance-requires
