@@ -43,6 +43,7 @@ setMark keep before read = bitOr read (bitAnd before keep)
 abbrev pub numbersOf : Mode → Numbers
 numbersOf mode = record { keep = byMode mode 65535 0 65535; take = byMode mode 0 65535 65535 }
 
+-- The new set by both numbers.
 abbrev pub setBy : Numbers → (before read : ℕ) → ℕ
 setBy numbers before read = setMark (numbers .keep) before (bitAnd read (numbers .take))
 
