@@ -96,9 +96,9 @@ pub fn sixteen() -> Vec<u8> {
     file(1, 16, 0, &boxes)
 }
 
-/// A straight chart of an edition and so many boxes, the halt included.
-pub fn straight(edition: u8, n: usize) -> Vec<u8> {
-    let mut boxes: Vec<Box10> = (1..n).map(|p| assign(31, 2, 31, 0, p as u8)).collect();
+/// A straight chart of an edition and so many boxes, the halt included; the others have one operation, which reads left and right.
+pub fn straight(edition: u8, op: u8, n: usize) -> Vec<u8> {
+    let mut boxes: Vec<Box10> = (1..n).map(|p| assign(31, op, 31, 0, p as u8)).collect();
     boxes.push(HALT);
     file(edition, 2, 0, &boxes)
 }
@@ -120,8 +120,13 @@ fn operand(random: &mut Random, k: u8) -> u8 {
     }
 }
 
-/// Box p, followed by the next one or by any.
-fn random_box(random: &mut Random, edition: u8, k: u8, n: u8, p: u8) -> Box10 {
+const OPERATIONS: [u8; 12] = [0, 1, 2, 3, 4, 5, 6, 7, 8, 9, 10, 11];
+
+/// Those that are the same in both editions.
+const SHARED: [u8; 9] = [0, 1, 4, 5, 6, 7, 8, 9, 10];
+
+/// Box p, followed by the next one or by any; an assignment has one of the given operations.
+fn random_box(random: &mut Random, edition: u8, k: u8, n: u8, p: u8, operations: &[u8]) -> Box10 {
     let mut next = || if random.one_in(2) { random.below(u32::from(n)) as u8 } else { (p + 1) % n };
     let (a, b) = (next(), next());
     match random.below(10) {
@@ -129,7 +134,7 @@ fn random_box(random: &mut Random, edition: u8, k: u8, n: u8, p: u8) -> Box10 {
         1..=3 => decide(random.below(3) as u8, operand(random, k), operand(random, k), a, b),
         _ => {
             let target = variable(random);
-            let op = random.below(12) as u8;
+            let op = operations[random.below(operations.len() as u32) as usize];
             match reads(edition, op) {
                 (false, _) => constant(target, random.number(), a),
                 (_, false) => assign(target, op, operand(random, k), 0, a),
@@ -139,12 +144,18 @@ fn random_box(random: &mut Random, edition: u8, k: u8, n: u8, p: u8) -> Box10 {
     }
 }
 
-/// A chart that load accepts, of either edition.
+/// A chart that load accepts, of either edition. In one of three every assignment has an operation that is the same in both; in one of six those below some box do.
 pub fn random_chart(random: &mut Random) -> Vec<u8> {
     let edition = 1 + random.below(2) as u8;
     let k = random.below(17) as u8;
     let n = if random.one_in(2) { 1 + random.below(12) } else { 1 + random.below(204) } as u8;
-    let boxes: Vec<Box10> = (0..n).map(|p| random_box(random, edition, k, n, p)).collect();
+    let shared = match random.below(6) {
+        0..=1 => n,
+        2 => random.below(u32::from(n)) as u8,
+        _ => 0,
+    };
+    let operations = |p| if p < shared { &SHARED[..] } else { &OPERATIONS[..] };
+    let boxes: Vec<Box10> = (0..n).map(|p| random_box(random, edition, k, n, p, operations(p))).collect();
     file(edition, k, random.below(u32::from(n)) as u8, &boxes)
 }
 

@@ -4,6 +4,7 @@ extern "C" {
     fn flow_checks(file: &[u8], mode: u32, inputs: &[u32], allowed: u32, limit: u32, rounds: u32) -> u64;
     fn flow_loads(files: &[u8], rounds: u32) -> u64;
     fn flow_writes(file: &[u8], buf: &mut [u8], rounds: u32) -> u64;
+    fn flow_converts(file: &[u8], buf: &mut [u8], rounds: u32) -> u64;
     fn flow_shows(file: &[u8], rounds: u32) -> u64;
     fn flow_script(files: &[u8], words: &[u32], told: &mut [u32], buf: &mut [u8]) -> usize;
 }
@@ -18,6 +19,10 @@ pub fn loads(files: &[u8], rounds: u32) -> u64 {
 
 pub fn writes(file: &[u8], buf: &mut [u8], rounds: u32) -> u64 {
     unsafe { flow_writes(file, buf, rounds) }
+}
+
+pub fn converts(file: &[u8], buf: &mut [u8], rounds: u32) -> u64 {
+    unsafe { flow_converts(file, buf, rounds) }
 }
 
 pub fn shows(file: &[u8], rounds: u32) -> u64 {

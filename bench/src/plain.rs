@@ -68,6 +68,12 @@ fn is_sealed(edition: u8, j: u16, block: &[u8]) -> bool {
     check_of(edition, j, block).to_le_bytes() == block[510..512]
 }
 
+/// Writes the check of block j.
+fn seal(edition: u8, j: u16, block: &mut [u8]) {
+    let check = check_of(edition, j, block);
+    block[510..512].copy_from_slice(&check.to_le_bytes());
+}
+
 /// Whether an operation reads left and whether it reads right.
 pub fn reads(edition: u8, op: u8) -> (bool, bool) {
     match op {
@@ -150,6 +156,34 @@ pub fn show_box(file: &[u8], number: u32) -> &[u8] {
         Ok(header) if number < u32::from(header.boxes) => place(file, number as usize),
         _ => &[],
     }
+}
+
+/// Whether a box does the same in both editions, which have the same kinds of boxes.
+fn is_shared(b: &[u8]) -> bool {
+    b[0] != 1 || ![2, 3, 11].contains(&b[2])
+}
+
+/// The other edition's file, with the same boxes, at the buffer's front.
+pub fn convert(file: &[u8], buf: &mut [u8]) -> Told {
+    let header = match check(file) {
+        Ok(header) => header,
+        Err((number, detail)) => return Told::Refused(number, detail),
+    };
+    // Places past the last box are zeros, as `check` has seen, so no assignments.
+    let mut places = file[512..].chunks_exact(512).flat_map(|block| block[..510].chunks_exact(10));
+    if let Some(p) = places.position(|b| !is_shared(b)) {
+        return Told::Refused(14, p as u32);
+    }
+    let Some(to) = buf.get_mut(..file.len()) else {
+        return Told::Refused(12, 0);
+    };
+    let edition = 3 - header.edition;
+    to.copy_from_slice(file);
+    to[4] = edition;
+    for (j, block) in (0..).zip(to.chunks_mut(512)) {
+        seal(edition, j, block);
+    }
+    Told::Written(file.len())
 }
 
 impl Runner {
@@ -376,8 +410,7 @@ impl Runner {
             } else {
                 block[..510].copy_from_slice(&self.table[510 * (j - 1)..510 * j]);
             }
-            let check = check_of(edition, j as u16, block);
-            block[510..].copy_from_slice(&check.to_le_bytes());
+            seal(edition, j as u16, block);
         }
         Told::Written(length)
     }

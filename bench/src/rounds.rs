@@ -13,6 +13,11 @@ fn fold_told(sum: u64, told: Told) -> u64 {
     numbers(told).into_iter().fold(sum, fold)
 }
 
+/// The byte at a place, which becomes 255; 0 past the end.
+fn take_byte(bytes: &mut [u8], at: usize) -> u32 {
+    bytes.get_mut(at).map_or(0, |b| std::mem::replace(b, 255)).into()
+}
+
 /// Health checks: begin, advance to the end, answer. Input 0 is one more each round.
 pub fn checks(file: &[u8], mode: u32, inputs: &[u32], allowed: u32, limit: u32, rounds: u32) -> u64 {
     let mut runner = plain::Runner::new();
@@ -65,8 +70,17 @@ pub fn writes(file: &[u8], buf: &mut [u8], rounds: u32) -> u64 {
     let mut sum = 0;
     for i in 0..rounds {
         sum = fold_told(sum, runner.write_back(buf));
-        let byte = buf.get_mut(i as usize % 2048).map_or(0, |b| std::mem::replace(b, 255));
-        sum = fold(sum, byte.into());
+        sum = fold(sum, take_byte(buf, i as usize % 2048));
+    }
+    sum
+}
+
+/// Conversions of one file; of each, one byte of the buffer is folded too.
+pub fn converts(file: &[u8], buf: &mut [u8], rounds: u32) -> u64 {
+    let mut sum = 0;
+    for i in 0..rounds {
+        sum = fold_told(sum, plain::convert(file, buf));
+        sum = fold(sum, take_byte(buf, i as usize % 2048));
     }
     sum
 }

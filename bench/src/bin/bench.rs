@@ -34,10 +34,12 @@ fn checks(name: String, unit: &'static str, units: f64, count: u32, file: Vec<u8
     }
 }
 
+/// Calls on files of sums; a conversion is of a file of products, since the editions differ in sums.
 fn files(edition: u8, name: String, count: u32, boxes: usize) -> Vec<Row> {
-    let one = charts::straight(edition, boxes);
-    let both = [one.clone(), charts::straight(edition, boxes - 1)].concat();
-    let (a, b, c, d, e, f) = (both.clone(), both, one.clone(), one.clone(), one.clone(), one);
+    let one = charts::straight(edition, 2, boxes);
+    let both = [one.clone(), charts::straight(edition, 2, boxes - 1)].concat();
+    let products = charts::straight(edition, 4, boxes);
+    let (a, b, c, d, e, f, g, h) = (both.clone(), both, one.clone(), one.clone(), products.clone(), products, one.clone(), one);
     let row = |call: &str, ours: Side, plain: Side| Row {
         name: format!("{call} {name}"),
         unit: "call",
@@ -59,9 +61,14 @@ fn files(edition: u8, name: String, count: u32, boxes: usize) -> Vec<Row> {
             Box::new(move |n| rounds::writes(&d, &mut [0; 2560], n)),
         ),
         row(
+            "convert",
+            Box::new(move |n| exported::converts(&e, &mut [0; 2560], n)),
+            Box::new(move |n| rounds::converts(&f, &mut [0; 2560], n)),
+        ),
+        row(
             "show a box of",
-            Box::new(move |n| exported::shows(&e, n)),
-            Box::new(move |n| rounds::shows(&f, n)),
+            Box::new(move |n| exported::shows(&g, n)),
+            Box::new(move |n| rounds::shows(&h, n)),
         ),
     ]
 }
@@ -82,7 +89,7 @@ fn rows() -> Vec<Row> {
         }
     }
     for n in [3, 20, 200] {
-        rows.push(checks(format!("health check of {n} boxes"), "check", 1.0, 400_000 / (20 + n as u32), charts::straight(1, n), [1, 3, 0]));
+        rows.push(checks(format!("health check of {n} boxes"), "check", 1.0, 400_000 / (20 + n as u32), charts::straight(1, 2, n), [1, 3, 0]));
     }
     for (edition, named) in editions {
         rows.extend(files(edition, format!("2 blocks{named}"), 2000, 51));

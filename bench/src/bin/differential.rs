@@ -2,18 +2,20 @@
 //!
 //! `differential SECONDS [SEED]`
 use bench::kinds::{numbers, shown};
-use bench::plain::{effective, show_box, Runner};
+use bench::plain::{convert, effective, show_box, Runner, Told};
 use bench::random::Random;
 use bench::{charts, exported, kinds};
 use std::time::{Duration, Instant};
 
 const STRIDE: usize = 24;
 
-/// A list of calls as numbers, the files that its loads and shows name, and where those begin in which two box blocks are exchanged.
+/// A list of calls as numbers, the files that its loads, shows and conversions name, and where those begin in which two box blocks are exchanged and those
+/// that plain Rust converted.
 struct Script {
     files: Vec<u8>,
     words: Vec<[u32; STRIDE]>,
     exchanged: Vec<u32>,
+    converted: Vec<u32>,
 }
 
 fn call(arguments: &[u32]) -> [u32; STRIDE] {
@@ -57,39 +59,69 @@ fn amount(random: &mut Random, limit: u32) -> u32 {
     }
 }
 
+/// How many bytes of the buffer to lend for a file's conversion: of any number, and often as many as the file has, or one fewer.
+fn room(random: &mut Random, length: u32) -> u32 {
+    match random.below(6) {
+        0 => random.below(2600),
+        1 => length.saturating_sub(1),
+        2..=3 => length,
+        _ => 2599,
+    }
+    .min(2599)
+}
+
+/// The other edition's file, where there is one.
+fn conversion(file: &[u8]) -> Option<Vec<u8>> {
+    let mut buf = [0; 2560];
+    match convert(file, &mut buf) {
+        Told::Written(length) => Some(buf[..length].to_vec()),
+        _ => None,
+    }
+}
+
+impl Script {
+    /// Puts a file of k inputs among the files, a load of it and other calls in the list; `limit` is that of the last begin.
+    fn add(&mut self, random: &mut Random, file: &[u8], k: u32, limit: &mut u32) {
+        let (from, length) = (self.files.len() as u32, file.len() as u32);
+        self.files.extend(file);
+        self.words.push(call(&[0, from, length]));
+        for _ in 0..random.below(40) {
+            self.words.push(match random.below(13) {
+                0..=2 => {
+                    let begin = begin(random, k);
+                    *limit = effective(begin[3]);
+                    begin
+                }
+                3..=6 => call(&[2, amount(random, *limit)]),
+                7..=8 => call(&[3]),
+                9 => call(&[4]),
+                10 => call(&[5, random.below(2600)]),
+                11 => call(&[6, from, length, if random.one_in(2) { random.below(12) } else { random.below(256) }]),
+                _ => call(&[7, from, length, room(random, length)]),
+            });
+        }
+    }
+}
+
 fn script(random: &mut Random) -> Script {
-    let mut files = Vec::new();
-    let mut words = Vec::new();
-    let mut exchanged = Vec::new();
+    let mut script = Script { files: Vec::new(), words: Vec::new(), exchanged: Vec::new(), converted: Vec::new() };
     let mut limit = effective(0);
     for _ in 0..1 + random.below(4) {
         let mut file = charts::random_chart(random);
         let k = u32::from(file[5]);
-        let from = files.len() as u32;
+        let converted = if random.one_in(3) { conversion(&file) } else { None };
         if random.one_in(3) {
             charts::damage(random, &mut file);
         } else if random.one_in(6) && charts::exchange(random, &mut file) {
-            exchanged.push(from);
+            script.exchanged.push(script.files.len() as u32);
         }
-        let length = file.len() as u32;
-        files.extend(file);
-        words.push(call(&[0, from, length]));
-        for _ in 0..random.below(40) {
-            words.push(match random.below(12) {
-                0..=2 => {
-                    let begin = begin(random, k);
-                    limit = effective(begin[3]);
-                    begin
-                }
-                3..=6 => call(&[2, amount(random, limit)]),
-                7..=8 => call(&[3]),
-                9 => call(&[4]),
-                10 => call(&[5, random.below(2600)]),
-                _ => call(&[6, from, length, if random.one_in(2) { random.below(12) } else { random.below(256) }]),
-            });
+        script.add(random, &file, k, &mut limit);
+        if let Some(converted) = converted {
+            script.converted.push(script.files.len() as u32);
+            script.add(random, &converted, k, &mut limit);
         }
     }
-    Script { files, words, exchanged }
+    script
 }
 
 fn sum_of(bytes: &[u8]) -> u32 {
@@ -109,9 +141,16 @@ fn plain(runner: &mut Runner, files: &[u8], words: &[u32; STRIDE], buf: &mut [u8
             let told = numbers(runner.write_back(&mut buf[..words[1] as usize]));
             (told, sum_of(buf))
         }
-        _ => {
+        6 => {
             let part = show_box(file(), words[3]);
             (shown(part), sum_of(part))
+        }
+        _ => {
+            let told = convert(file(), &mut buf[..words[3] as usize]);
+            if let Told::Written(length) = told {
+                assert!(conversion(&buf[..length]).as_deref() == Some(file()), "converting back gives another file");
+            }
+            (numbers(told), sum_of(buf))
         }
     };
     [told[0], told[1], told[2], sum]
@@ -128,6 +167,8 @@ fn main() {
     let mut refusals = [0u64; 25];
     let mut accepted = [0u64; 3];
     let mut exchanged = [[0u64; 2]; 3];
+    let mut conversions = [[0u64; 2]; 3];
+    let mut converted = 0u64;
     while Instant::now() < end {
         let script = script(&mut random);
         let flat: Vec<u32> = script.words.iter().flatten().copied().collect();
@@ -154,6 +195,12 @@ fn main() {
                     _ => {}
                 }
             }
+            match (words[0], name, expected[1]) {
+                (0, "chart", _) if script.converted.contains(&words[1]) => converted += 1,
+                (7, "written", _) => conversions[edition()][0] += 1,
+                (7, "refused", 14) => conversions[edition()][1] += 1,
+                _ => {}
+            }
             if told != expected {
                 println!("seed {seed}, list {scripts}, call {i}: {words:?}");
                 println!("the library told {told:?}, plain Rust {expected:?}");
@@ -178,4 +225,9 @@ fn main() {
         let [loaded, refused] = exchanged[edition];
         println!("exchanged blocks in edition {edition}: {loaded} loaded, {refused} refused by 2");
     }
+    for edition in [1, 2] {
+        let [made, refused] = conversions[edition];
+        println!("conversions from edition {edition}: {made} made, {refused} refused by 14");
+    }
+    println!("loads of converted charts: {converted}");
 }

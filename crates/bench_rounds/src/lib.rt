@@ -74,6 +74,19 @@ pub extern "C" fn flow_writes(file: &[u8], buf: &mut [u8], rounds: u32) -> u64 {
     sum
 }
 
+// Conversions of one file; of each, one byte of the buffer is folded and changed.
+#[no_mangle]
+pub extern "C" fn flow_converts(file: &[u8], buf: &mut [u8], rounds: u32) -> u64 {
+    let mut sum: u64 = 0;
+    let mut i: u32 = 0;
+    while i < rounds {
+        sum = fold_told(sum, told::of_written(convert::convert(file, buf)));
+        sum = fold(sum, take_byte(buf, (i % 2048) as usize));
+        i += 1;
+    }
+    sum
+}
+
 // Boxes shown, by numbers below 256; of each, the length and the byte at 5 are folded.
 #[no_mangle]
 pub extern "C" fn flow_shows(file: &[u8], rounds: u32) -> u64 {

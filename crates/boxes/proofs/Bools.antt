@@ -1,4 +1,4 @@
--- Laws of && and ||: what a conjunction or a disjunction that holds says of its parts; and what never holds is false. Assumes nothing.
+-- Laws of && and ||: what a conjunction or a disjunction that holds says of its parts; and what never holds is false, what never fails true. Assumes nothing.
 use mathlib.Core.Path.{_≡_, refl}
 use mathlib.Core.List.{List, [], _∷_}
 use mathlib.Core.Bool.{Bool, true, false, _&&_, _||_, false≢true}
@@ -19,6 +19,10 @@ or-cases false b e = inr e
 pub never-true : (b : Bool) → (b ≡ true → ⊥) → b ≡ false
 never-true true never = absurd (never refl)
 never-true false never = refl
+
+pub never-false : (b : Bool) → (b ≡ false → ⊥) → b ≡ true
+never-false true never = refl
+never-false false never = absurd (never refl)
 
 -- a && b && c and so on, as && associates.
 abbrev pub allOf : Bool → List Bool → Bool

@@ -18,6 +18,10 @@ readsLeft op = leb 1 op
 abbrev pub readsRight : (edition op : ℕ) → Bool
 readsRight edition op = (leb 2 op && leb op 8) || (eqb op 11 && eqb edition 2)
 
+-- The kinds that an edition has: "Assignment: 0 kind 1", "Decision: 0 kind 2", "Halt: 0 kind 3", in either.
+abbrev pub hasKind : (edition kind : ℕ) → Bool
+hasKind edition kind = leb 1 kind && leb kind 3
+
 -- An operand that the box reads, or does not: "An unused field is 0, and that 0 isn't a read of input 0."
 unfoldable pub operandRule : ℕ → Bool → ℕ → Bool
 operandRule k reads v = cond reads (readable k v) (eqb v 0)

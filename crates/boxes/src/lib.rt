@@ -2,7 +2,7 @@
 ghost use mathlib.Core.Path.{_≡_};
 ghost use lib.ListN.{length};
 ghost use Rattle.boxes.specs.Bytes.{allZero};
-ghost use Rattle.boxes.specs.Box.{readable, readsRight, operandRule, assignmentRule, decisionRule, haltRule, wellFormed};
+ghost use Rattle.boxes.specs.Box.{readable, readsRight, hasKind, operandRule, assignmentRule, decisionRule, haltRule, wellFormed};
 
 // Every byte is 0.
 pub fn all_zero(bytes: &[u8]) -> bool
@@ -28,6 +28,13 @@ pub fn reads_right(edition: u8, op: u8) -> bool
     ensures { λ r. ⌜ r ≡ readsRight edition op ⌝ }
 {
     ((2 <= op) & (op <= 8)) | ((op == 11) & (edition == 2))
+}
+
+// Whether an edition has boxes of a kind.
+pub fn has_kind(edition: u8, kind: u8) -> bool
+    ensures { λ r. ⌜ r ≡ hasKind edition kind ⌝ }
+{
+    (1 <= kind) & (kind <= 3)
 }
 
 fn operand_holds(k: u8, reads: bool, v: u8) -> bool

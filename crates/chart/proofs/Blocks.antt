@@ -1,5 +1,5 @@
 -- Laws of the blocks of a chart's file: their lengths, what the block writer leaves, and block 0 among them.
--- blocks-sized; sealed-part; body-first, body-later, sealed-is. Assumes nothing.
+-- length-body, blocks-sized; sealed-part; body-first, body-later, sealed-is. Assumes nothing.
 use Prim.Native.Nat.{ℕ, zero, suc, _*_, _-_, _/_, _%_, _≤_}
 use mathlib.Core.Path.{_≡_, refl, ap, sym, _∙_}
 use mathlib.Core.List.{List, [], _∷_, _++_, append-assoc}
@@ -18,7 +18,7 @@ length-seal : (added : ℕ) (body : List ℕ) → length body ≡ 510 → length
 unfolding seal
 length-seal added body h = length-append body _ ∙ omega arith
 
-length-body : (h : Header) (table : List ℕ) (j : ℕ) → length table ≡ 2040 → j ≤ 4 → length (bodyOf h table j) ≡ 510
+pub length-body : (h : Header) (table : List ℕ) (j : ℕ) → length table ≡ 2040 → j ≤ 4 → length (bodyOf h table j) ≡ 510
 unfolding bodyOf headerBody
 length-body h table zero l q = refl
 length-body h table (suc j) l q = length-part table (510 * j) 510 (omega arith)

@@ -1,4 +1,4 @@
--- Write back, where it is not refused: the length of a chart's file, the room for it, and the buffer afterwards.
+-- A chart's file written into a buffer, by write back and by the converter: its length, the room for it, and the buffer afterwards.
 use Prim.Native.Nat.{ℕ, _*_}
 use mathlib.Core.List.{List, _++_}
 use mathlib.Core.Bool.{Bool, cond, _&&_}

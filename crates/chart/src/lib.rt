@@ -1,6 +1,7 @@
 // A chart out of its file and back: the box table of a file, the file of a chart, and one box of a file.
 use format::Checked;
 use format::Header;
+use format::Refusal;
 ghost use mathlib.Core.Path.{_≡_};
 ghost use mathlib.Core.List.{_++_};
 ghost use Prim.Native.Nat.{_≤_};
@@ -9,6 +10,12 @@ ghost use Rattle.format.specs.Block.{seal};
 ghost use Rattle.chart.specs.Chart.{boxBlocks, tableOf, headerBody, sealedBlock};
 ghost use Rattle.chart.specs.WriteBack.{fileLength, withFile, putFile};
 ghost use Rattle.chart.specs.ShowBox.{showBox, IsPart};
+
+// What is told where a chart's file is to be written: its length, or a refusal.
+pub enum Written {
+    Length(usize),
+    Refused(Refusal),
+}
 
 fn box_blocks(bytes: usize) -> usize
     ensures { λ r. ⌜ r ≡ boxBlocks bytes ⌝ }

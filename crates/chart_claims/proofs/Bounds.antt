@@ -36,7 +36,7 @@ loads-within-bounds f h e =
     let s = stays-in-range f h e in
     record {
       header = header-bounds (s .0);
-      formed = λ p l. o .1 p (omega arith);
+      formed = λ p l. o .formed p (omega arith);
       ranged = λ p l. box-bounds (s .1 p (omega arith));
-      zero = o .2 (h .boxes) (omega arith);
+      zero = o .zero (h .boxes) (omega arith);
     }

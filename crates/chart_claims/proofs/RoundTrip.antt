@@ -5,7 +5,7 @@ use mathlib.Core.Path.{_≡_, refl, ap, sym, _∙_}
 use mathlib.Core.List.{List, [], _∷_, _++_}
 use mathlib.Core.Bool.{true}
 use native.Mathlib.Omega.{arith}
-use native.Mathlib.Nat.{mul-suc}
+use native.Mathlib.Nat.{mul-zero, mul-suc}
 use lib.ListN.{length, take, drop, replicate, take-append-drop, drop-of-length-le}
 use lib.Seq.{take-add, take-all, take-take, drop-cons}
 use borrow.Author.Tests.{le-leb}
@@ -82,19 +82,19 @@ module _ (f : List ℕ) (h : Header) (e : checkFile f ≡ checked.Accepted h) wh
       let added = addend (h .edition) j in
       ap (seal added) (body-again j l) ∙ seal-front added (blockOf f j) (length-part f (512 * j) 512 (omega (arith, a .long))) (a .checks j l)
 
--- The blocks of a list, joined, are its front.
-joined-blocks : (f : List ℕ) (m : ℕ) → joined (blockOf f) m ≡ take (512 * m) f
+-- The parts of a list of one size, joined, are its front.
+pub joined-parts : (size : ℕ) (f : List ℕ) (m : ℕ) → joined (λ j. part f (size * j) size) m ≡ take (size * m) f
 unfolding joined
-joined-blocks f zero = refl
-joined-blocks f (suc m) =
-    ap (λ (x : List ℕ). x ++ blockOf f m) (joined-blocks f m) ∙ sym (take-add (512 * m) 512 f) ∙ ap (λ (k : ℕ). take k f) (sym (mul-suc 512 m))
+joined-parts size f zero = ap (λ (k : ℕ). take k f) (sym (mul-zero size))
+joined-parts size f (suc m) =
+    ap (λ (x : List ℕ). x ++ part f (size * m) size) (joined-parts size f m) ∙ sym (take-add (size * m) size f) ∙ ap (λ (k : ℕ). take k f) (sym (mul-suc size m))
 
 pub file-again : (f : List ℕ) (h : Header) → checkFile f ≡ checked.Accepted h → fileOf h (tableOf f) ≡ f
 unfolding fileOf
 file-again f h e =
     let a = accepted f h e in
     joined-same (sealedBlock h (tableOf f)) (blockOf f) (blocksFor (h .boxes)) (block-again f h e)
-    ∙ joined-blocks f (blocksFor (h .boxes))
+    ∙ joined-parts 512 f (blocksFor (h .boxes))
     ∙ take-all (512 * blocksFor (h .boxes)) f (omega (arith, a .long))
 
 pub reproduces-file : ReproducesFile

@@ -80,7 +80,9 @@ module _ (f : List ℕ) (h : Header) (e : checkFile f ≡ checked.Accepted h) wh
       length-append (joined (boxesOf f) m) (replicate (2040 - 510 * m) 0) ∙ omega (arith, long, length-replicate {A = ℕ} (2040 - 510 * m) 0)
 
 pub obeys-rules : ObeysRules
-obeys-rules f h e = (table-long f h e, obeys f h e, zeros-past f h e)
+obeys-rules f h e =
+    let a = accepted f h e in
+    record { edition = a .edition; ranged = a .ranged; long = table-long f h e; formed = obeys f h e; zero = zeros-past f h e }
 
 length-formed : (edition k n : ℕ) (b : List ℕ) → wellFormed edition k n b ≡ true → length b ≡ 10
 unfolding wellFormed

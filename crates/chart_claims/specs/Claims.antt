@@ -1,11 +1,12 @@
--- What is claimed of the definitions: the file's half of demand 2, what show a box shows, and the ranges of the numbers in a loaded chart.
+-- What is claimed of the definitions: the file's half of demand 2, the rules that a loaded chart obeys, that any chart which obeys them has a file that loads to it, what show a box shows, and
+-- the ranges of the numbers in a loaded chart.
 use Prim.Native.Nat.{ℕ, _≤_, _<_}
 use mathlib.Core.Path.{_≡_}
 use mathlib.Core.List.{List, _++_}
 use mathlib.Core.Bool.{true}
 use lib.ListN.{length, drop}
 use Rattle.boxes.specs.Bytes.{at, part, allZero, boxOf}
-use Rattle.format.specs.File.{inRange, boxRule, checkFile}
+use Rattle.format.specs.File.{isEdition, inRange, boxRule, checkFile}
 use Rattle.format.specs.declared.Header.{Header}
 use Rattle.format.specs.declared.Checked.the-variants.{Accepted}
 use Rattle.chart.specs.Chart.{tableOf, fileOf}
@@ -35,14 +36,25 @@ ReproducesChart =
     → checkFile f ≡ Accepted h
     → (checkFile (fileOf h (tableOf f)) ≡ Accepted h) × (tableOf (fileOf h (tableOf f)) ≡ tableOf f)
 
--- The boxes of a loaded table, 204 places of ten bytes, obey the box rules, and the places past them are zero.
+-- A chart that obeys the rules: its header's numbers are those of a file, its table has 204 places of ten bytes, its boxes break no rule, and the places past them
+-- are zero.
+pub record Ruled (h : Header) (table : List ℕ) : Type 0 where
+  pub edition : isEdition (h .edition) ≡ true
+  pub ranged : inRange h ≡ true
+  pub long : length table ≡ 2040
+  pub formed : (p : ℕ) → p < h .boxes → boxRule h (boxOf table p) ≡ true
+  pub zero : (p : ℕ) → h .boxes ≤ p → allZero (boxOf table p) ≡ true
+
+-- A loaded chart obeys them.
 abbrev pub ObeysRules : Type 0
-ObeysRules =
-    (f : List ℕ) (h : Header)
-    → checkFile f ≡ Accepted h
-    → (length (tableOf f) ≡ 2040)
-    × ((p : ℕ) → p < h .boxes → boxRule h (boxOf (tableOf f) p) ≡ true)
-    × ((p : ℕ) → h .boxes ≤ p → allZero (boxOf (tableOf f) p) ≡ true)
+ObeysRules = (f : List ℕ) (h : Header) → checkFile f ≡ Accepted h → Ruled h (tableOf f)
+
+-- And a chart that obeys them, wherever it comes from, has a file that loads to it.
+abbrev pub RuledIsLoaded : Type 0
+RuledIsLoaded =
+    (h : Header) (table : List ℕ)
+    → Ruled h table
+    → (checkFile (fileOf h table) ≡ Accepted h) × (tableOf (fileOf h table) ≡ table)
 
 -- "returns the ten bytes of that box": of an accepted file and a number below n, the part that is shown is the box that the table holds.
 abbrev pub ShowsTheBox : Type 0

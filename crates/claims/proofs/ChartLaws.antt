@@ -36,14 +36,14 @@ from-obeys h table file e t =
     let o = obeys-rules file h e in
     let s = stays-in-range file h e in
     record {
-      long = rw t (o .0);
+      long = rw t (o .long);
       header = s .0;
-      formed = rw t (o .1);
+      formed = rw t (o .formed);
       ranged = rw t (s .1);
       reads =
           λ p l. rw t
-          (reads-only (h .edition) (h .inputs) (h .boxes) (tableOf file) p (omega (arith, s .0 .fits, l)) (o .1 p l));
-      zero = rw t (o .2);
+          (reads-only (h .edition) (h .inputs) (h .boxes) (tableOf file) p (omega (arith, s .0 .fits, l)) (o .formed p l));
+      zero = rw t (o .zero);
     }
 
 pub held-obeys : HeldObeys
@@ -90,7 +90,7 @@ unfolding final
 final-kept [] r n = refl
 final-kept (c ∷ cs) r n = final-kept cs (call c r .next) (n .1) ∙ next-kept c r (n .0)
 
-load-does : (file : List ℕ) (r : Runner) → Accepted (load file) r
+pub load-does : (file : List ℕ) (r : Runner) → Accepted (load file) r
     → call (load file) r ≡ record { told = record { reply = chart (headerOf file .inputs) (headerOf file .boxes); buffer = [] }; next = idle (chartOf file) }
 unfolding outcomeBy says after
 load-does file r e = call-done (load file) r e
@@ -114,7 +114,7 @@ loaded-is-written r file buffer cs a n room =
     writes-file last file buffer (e ∙ ap checked.Accepted (sym header)) (ap (λ (c : Chart). c .table) held) room
 
 -- A file that is accepted loads into any runner that has no run under way.
-loads-file : (q : Runner) (file : List ℕ) → checkFile file ≡ checked.Accepted (headerOf file) → isRunning q ≡ false → Accepted (load file) q
+pub loads-file : (q : Runner) (file : List ℕ) → checkFile file ≡ checked.Accepted (headerOf file) → isRunning q ≡ false → Accepted (load file) q
 unfolding check fileVerdict
 loads-file q file e n = rw (n, e)
 

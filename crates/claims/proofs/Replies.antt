@@ -3,11 +3,11 @@ use Prim.Native.Nat.{ℕ}
 use mathlib.Core.Path.{_≡_, refl, ap, _∙_}
 use Rattle.format.specs.File.{refusal}
 use Rattle.format.specs.declared.Refusal.{Refusal}
+use Rattle.chart.specs.declared.Written.the-variants as written
 use Rattle.calls.specs.declared.Verdict.the-variants as verdict
 use Rattle.runner.specs.declared.LoadTold.the-variants as load
 use Rattle.runner.specs.declared.AdvanceTold.the-variants as advance
 use Rattle.runner.specs.declared.AnswerTold.the-variants as answer
-use Rattle.runner.specs.declared.Written.the-variants as written
 use Rattle.runner.specs.Outcomes.{turnedAway}
 use Rattle.runner.specs.Replies.{loadReply, verdictReply, advanceReply, answerReply, writtenReply}
 use Rattle.claims.proofs.Branches.{clash}

@@ -13,8 +13,9 @@ use Rattle.examples.specs.Files.{fileCases, FileExamples}
 use Rattle.examples.specs.Runs.{markedCases, MarkedCases, namingCases, NamingCases, hiddenCases, HiddenCases}
 use Rattle.examples.specs.Editions.{editionCases, EditionCases}
 use Rattle.examples.specs.Checks.{threeOne, threeTwo, checkCases, CheckCases, BlocksExchanged}
+use Rattle.examples.specs.Conversions.{chartATwo, conversionCases, ConversionCases}
 use Rattle.examples.specs.Keeping.{keepingCases, KeepingCases}
-use Rattle.examples.proofs.Open.{files-open, tables-open, marks-open, runs-open}
+use Rattle.examples.proofs.Open.{files-open, tables-open, conversions-open, marks-open, runs-open}
 
 pub file-examples : FileExamples
 unfolding files-open gives expected fileCases
@@ -56,6 +57,10 @@ edition-cases = (refl, refl)
 pub check-cases : CheckCases
 unfolding runs-open gives expected rearranged inPlaceOf threeOne threeTwo checkCases
 check-cases = (refl, refl)
+
+pub conversion-cases : ConversionCases
+unfolding conversions-open gives expected threeOne threeTwo chartATwo conversionCases
+conversion-cases = (refl, refl)
 
 pub keeping-cases : KeepingCases
 unfolding marks-open gives expected keepingCases

@@ -1,4 +1,4 @@
--- The definitions that a load and a run go through, by groups: a proof that opens the name of a group opens all that it names.
+-- The definitions that a load, a conversion and a run go through, by groups: a proof that opens the name of a group opens all that it names.
 use lib.Count.{trailingZeros}
 use Rattle.boxes.specs.Bytes.{allZero}
 use Rattle.boxes.specs.Box.{operandRule, assignmentRule, decisionRule, haltRule, wellFormed}
@@ -7,6 +7,7 @@ use Rattle.format.specs.Block.{weighted, addend, checksum, isSealed, seal}
 use Rattle.format.specs.File.{checkRule, headerRule, placeRule, checkFile}
 use Rattle.chart.specs.Chart.{joined, tableOf, headerBody, bodyOf, fileOf}
 use Rattle.chart.specs.WriteBack.{withFile}
+use Rattle.convert.specs.Convert.{takes, checkChart, checkAfter, conversionBy, convert}
 use Rattle.operations.specs.Operation.{readBy, valueOfLeft, sum, difference, quotient, remainder, valueOfBoth, valueOf, compares}
 use Rattle.marks.specs.Marks.{modeOf, union}
 use Rattle.decode.specs.Decode.{decode, boxAt, meaning}
@@ -31,6 +32,10 @@ files-open = tt
 unfoldable pub tables-open : Unit {0}
 unfolding joined tableOf headerBody bodyOf seal fileOf withFile
 tables-open = tt
+
+unfoldable pub conversions-open : Unit {0}
+unfolding files-open tables-open takes checkChart checkAfter conversionBy convert
+conversions-open = tt
 
 unfoldable pub values-open : Unit {0}
 unfolding decode boxAt meaning readBy valueOfLeft trailingZeros sum difference quotient remainder valueOfBoth valueOf compares

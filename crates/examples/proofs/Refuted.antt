@@ -1,4 +1,4 @@
--- Each refutation is a run of a chart: what the claim would say of it is that two replies are the same, and they compute to different ones.
+-- Each refutation is a run of a chart: what the claim would say of it is that two replies, endings or buffers are the same, and they compute to different ones.
 -- Assumes nothing.
 use Prim.Native.Nat.{ℕ}
 use mathlib.Core.Path.{_≡_, refl, ap}
@@ -7,24 +7,30 @@ use mathlib.Core.Logic.{inl}
 use mathlib.Core.Bool.{false≢true}
 use native.Mathlib.Omega.{arith}
 use lib.ListN.{replicate}
+use Rattle.boxes.specs.Bytes.{at}
 use Rattle.format.specs.File.{refusal}
-use Rattle.machine.specs.Run.{valued, notice, spent}
+use Rattle.machine.specs.Run.{Ending, valued, notice, spent}
 use Rattle.begin.specs.Begin.{limitForNone}
-use Rattle.calls.specs.Calls.{load, begin, advance, answer}
+use Rattle.calls.specs.Calls.{load, begin, advance, answer, writeBack}
 use Rattle.calls.proofs.Permits.{not-done}
 use Rattle.runner.specs.declared.Runner.{Runner}
 use Rattle.runner.specs.State.{newRunner}
+use Rattle.runner.specs.Whole.{Finish, finish}
+use Rattle.runner.specs.Whole as runs
 use Rattle.runner.specs.Outcomes.{chart, running, ended, ending, refused, Reply, Told, Outcome}
 use Rattle.claims.specs.Lists.{fresh, then, begun, asked}
 use Rattle.claims.specs.Demand3.{SameLimit}
 use Rattle.claims.proofs.Branches.{clash}
-use Rattle.examples.specs.Charts.{block, front, halt, chartB, chartC, chartD, chartE}
+use Rattle.convert_claims.specs.Conversions.{OtherEdition}
+use Rattle.examples.specs.Charts.{block, front, halt, chartA, chartB, chartC, chartD, chartE, sumOne, sumTwo}
+use Rattle.examples.specs.Conversions.{chartATwo}
 use Rattle.examples.specs.Refuted.{BareIsNotSecret, AnotherModeIsTold, AnotherLimitIsTold, BareAnswersMore, SmallerLimitAnswersLess}
 use Rattle.examples.specs.Refuted.{OneMore, OneLess, AdvancesPartAtTheEnd, NoLoadDuringARun, AnotherLoadIsTold}
 use Rattle.examples.specs.Refuted.{HighWaterNamesNone, SurveillanceNamesSome, HighWaterAdvancesPart, HighWaterSumEndsNothing, HighWaterCountsNoBoxes, SurveillanceTellsCounts}
 use Rattle.examples.specs.Witnesses.{justLoaded}
-use Rattle.examples.proofs.Open.{runs-open}
-use Rattle.examples.proofs.Witnesses.{on-one-file, one-withheld, answered}
+use Rattle.examples.specs.Refuted.{WrittenBackIsTold, EditionsEndApart}
+use Rattle.examples.proofs.Open.{conversions-open, runs-open}
+use Rattle.examples.proofs.Witnesses.{on-one-file, one-withheld, answered, conversion-is-met}
 
 -- The first reply of a list.
 first : List Told → Reply
@@ -154,3 +160,30 @@ surveillance-names-some claim =
     let t : Told = record { reply = ending (notice 1) 2; buffer = [] } in
     let e = claim (justLoaded chartD) 1 (7 ∷ []) 0 0 refl (advance 2 ∷ answer ∷ []) (tt, (tt, tt)) t (List·Memᴰ·tail (List·Memᴰ·head refl)) refl in
     absurd (omega arith)
+
+-- Byte 4 of the buffer after the second call of a list.
+edition-told : List Told → ℕ
+edition-told [] = 0
+edition-told (t ∷ []) = 0
+edition-told (t ∷ u ∷ ts) = at (u .buffer) 4
+
+pub written-back-is-told : WrittenBackIsTold
+unfolding runs-open conversions-open chartATwo edition-told
+written-back-is-told claim =
+    let lists = claim chartA chartATwo (conversion-is-met .0) newRunner newRunner refl refl (writeBack (replicate 1024 0) ∷ []) (tt, tt) in
+    let e : _≡_ {A = ℕ} 2 1 = ap edition-told lists in
+    omega arith
+
+-- The value of an ending.
+valueOfEnding : Ending → ℕ
+valueOfEnding (valued v) = v
+valueOfEnding (notice named) = 0
+valueOfEnding spent = 0
+
+pub editions-end-apart : EditionsEndApart
+unfolding runs-open finish runs.whole valueOfEnding
+editions-end-apart claim =
+    let related : OtherEdition sumOne sumTwo =
+    record { accepted = refl; accepted′ = refl; editions = inl (refl, refl); inputs = refl; boxes = refl; first = refl; table = refl } in
+    let e : _≡_ {A = ℕ} 4294967295 0 = ap (λ (x : Finish). valueOfEnding (x .ending)) (claim sumOne sumTwo related 0 (4294967295 ∷ 1 ∷ []) 0 2) in
+    omega arith

@@ -1,9 +1,9 @@
--- The instances of demand 3: both runners have loaded one file, so they hold one chart; the rest is computation. Assumes nothing.
+-- The instances of demand 3: both runners have loaded one file, so they hold one chart; the rest is computation, as is the instance of a conversion. Assumes nothing.
 use Prim.Native.Nat.{ℕ, zero, suc}
 use mathlib.Core.Path.{_≡_, refl, ap, sym, _∙_}
 use mathlib.Core.List.{List, [], _∷_, _++_, List·Memᴰ·head, List·Memᴰ·tail}
 use mathlib.Core.Bool.{false, false≢true}
-use lib.ListN.{length, getD}
+use lib.ListN.{length, getD, replicate}
 use Rattle.begin.specs.Begin.{allows}
 use Rattle.calls.specs.Calls.{Call, load, begin, advance, answer}
 use Rattle.calls.proofs.Permits.{not-done}
@@ -16,8 +16,9 @@ use Rattle.claims.specs.OneFile.{afterLoad, NoOtherChart}
 use Rattle.claims.proofs.OneFile.{reached-final, one-file-held}
 use Rattle.claims.proofs.Inputs.{none-has}
 use Rattle.examples.specs.Charts.{chartA, chartB, chartE, zerosTwo}
-use Rattle.examples.specs.Witnesses.{justLoaded, runBare, SecrecyIsMet, NoticeIsTold, SecondEditionIsMet, CountsAreHidden, AdvancesAreWhole, AnsweringIsMet}
-use Rattle.examples.proofs.Open.{runs-open}
+use Rattle.examples.specs.Witnesses.{justLoaded, runBare, SecrecyIsMet, NoticeIsTold, SecondEditionIsMet, CountsAreHidden, AdvancesAreWhole, AnsweringIsMet, ConversionIsMet}
+use Rattle.examples.specs.Conversions.{chartATwo}
+use Rattle.examples.proofs.Open.{conversions-open, runs-open}
 
 -- Two begins on runners that have loaded one file.
 pub on-one-file : (file : List ℕ) (past past′ : List Call) (mode mode′ : ℕ) (Limits : ℕ → ℕ → Type 0) (inputs inputs′ : List ℕ) (allowed limit limit′ : ℕ)
@@ -108,5 +109,15 @@ answering-is-met = (
   refl,
   answered (begun 2 (7 ∷ []) 0 2 (justLoaded chartE)) 5 2 refl,
   (tt, (not-done, (not-done, (tt, (tt, (tt, (not-done, (tt, tt)))))))),
+  refl,
+)
+
+pub conversion-is-met : ConversionIsMet
+unfolding runs-open conversions-open chartATwo
+conversion-is-met = (
+  record { buffer = replicate 1024 0; told = refl; front = refl },
+  (tt, (not-done, (tt, (tt, (tt, (tt, (tt, (tt, tt)))))))),
+  refl,
+  refl,
   refl,
 )

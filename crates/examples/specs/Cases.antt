@@ -8,6 +8,8 @@ use lib.ListN.{length, replicate}
 use Rattle.format.specs.Block.{checksum}
 use Rattle.format.specs.File.{headerOf, checkFile}
 use Rattle.format.specs.declared.Checked.{Checked}
+use Rattle.chart.specs.declared.Written.{Written}
+use Rattle.convert.specs.Convert.{Conversion, conversion, convert}
 use Rattle.operations.specs.Operation.{readBy, valueOf}
 use Rattle.marks.specs.Marks.{union, setBy}
 use Rattle.marks.specs.declared.Numbers.{Numbers}
@@ -18,28 +20,31 @@ use Rattle.runner.specs.State.{newRunner}
 use Rattle.runner.specs.Outcomes.{Reply, done, chart, ended, ending, wrote, Told}
 use Rattle.claims.specs.Lists.{tells}
 
--- A file and the answer of load's input checks; a file that is loaded and written back to itself; a chart's file, what begin is given, and the ending with its
--- steps; an operation of an edition, its operands and its result; what a block's check adds, the block, and its check; or two numbers, whose bits are the inputs to
+-- A file and the answer of load's input checks; a file that is loaded and written back to itself; a file and a buffer, what the converter tells and the buffer after it; a chart's file, what begin
+-- is given, and the ending with its steps; an operation of an edition, its operands and its result; what a block's check adds, the block, and its check; or two numbers, whose bits are the inputs to
 -- keep and to take, the old set, the sets read, and the new set.
 pub data Case : Type 0 where
   answers : (file : List ℕ) → Checked → Case
   returns : (file : List ℕ) → Case
+  converts : (file buffer : List ℕ) → Written → (end : List ℕ) → Case
   runs : (file : List ℕ) (mode : ℕ) (inputs : List ℕ) (allowed limit : ℕ) → Ending → (steps : ℕ) → Case
   operates : (edition op left right result : ℕ) → Case
   checks : (added : ℕ) (block : List ℕ) (check : ℕ) → Case
   sets : Numbers → (before : ℕ) (read : List ℕ) (set : ℕ) → Case
 
--- What a case gives: the answer of the checks, what calls tell, or a number.
+-- What a case gives: the answer of the checks, a conversion, what calls tell, or a number.
 pub data Given : Type 0 where
   checked : Checked → Given
+  converted : Conversion → Given
   told : List Told → Given
   number : ℕ → Given
 
--- What the definitions give: what the checks answer; what a new runner tells for load and write back into as many bytes, all 0; for load, begin, advance to the
--- limit and answer; the operation's result; the block's check; the new set.
+-- What the definitions give: what the checks answer; what a new runner tells for load and write back into as many bytes, all 0; what the converter does; what a new runner tells for load, begin,
+-- advance to the limit and answer; the operation's result; the block's check; the new set.
 unfoldable pub gives : Case → Given
 gives (answers file so) = checked (checkFile file)
 gives (returns file) = told (tells (load file ∷ writeBack (replicate (length file) 0) ∷ []) newRunner)
+gives (converts file buffer so end) = converted (convert file buffer)
 gives (runs file mode inputs allowed limit e steps) =
     told (tells (load file ∷ begin mode inputs allowed limit ∷ advance (effective limit) ∷ answer ∷ []) newRunner)
 gives (operates edition op left right result) = number (valueOf edition op 0 (readBy edition op left right))
@@ -72,6 +77,7 @@ loaded file = chart (headerOf file .inputs) (headerOf file .boxes)
 unfoldable pub expected : Case → Given
 expected (answers file so) = checked so
 expected (returns file) = told (record { reply = loaded file; buffer = [] } ∷ record { reply = wrote (length file); buffer = file } ∷ [])
+expected (converts file buffer so end) = converted (conversion so end)
 expected (runs file mode inputs allowed limit e steps) =
     told (replied (loaded file ∷ done ∷ ended (stepsAtTheEnd mode steps) ∷ ending e steps ∷ []))
 expected (operates edition op left right result) = number result

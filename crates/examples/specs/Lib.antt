@@ -1,11 +1,12 @@
 -- Document 01's charts as files, and tables of what the definitions give: of load's checks, of the cases marked (P), of the inputs that notices name, of what high-water
--- runs tell, of the two editions, of their checks, and of how a mark is set. Then what claims of the calls do not hold, and instances of demand 3.
+-- runs tell, of the two editions, of their checks, of conversions, and of how a mark is set. Then what claims of the calls do not hold, and instances of demand 3 and of a conversion.
 pub mod Charts
 pub mod Cases
 pub mod Files
 pub mod Runs
 pub mod Editions
 pub mod Checks
+pub mod Conversions
 pub mod Keeping
 pub mod Refuted
 pub mod Witnesses

@@ -4,6 +4,7 @@ use mathlib.Core.Path.{_≡_}
 use mathlib.Core.Bool.{true, false}
 use Rattle.begin.specs.Begin.{effective}
 use Rattle.runner.specs.State.{isRunning}
+use Rattle.convert_claims.specs.Conversions.{OtherEdition, EndsAlikeWhere, TellsAlikeWhere}
 use Rattle.claims.specs.Demand3.{SameLimit, Secrecy, AnswersAs}
 use Rattle.claims.specs.Runs.{AdvancesJoinWhere, NotEndedAfter, NotHighWater, CountsBoxesWhere, LimitEndsWhere}
 use Rattle.claims.specs.Charts.{AllKeepChart, WrittenLoadsWhere}
@@ -64,6 +65,14 @@ NoLoadDuringARun = WrittenLoadsWhere (λ r r′. isRunning r ≡ false) → ⊥
 -- Another load between: that the runner which has yet to load the file would refuse it is not enough.
 abbrev pub AnotherLoadIsTold : Type 0
 AnotherLoadIsTold = OneFileWhere (λ file past r. AllKeepChart past r) → ⊥
+
+-- Write back tells the edition: of chart A and its converted one, in byte 4.
+abbrev pub WrittenBackIsTold : Type 0
+WrittenBackIsTold = TellsAlikeWhere (λ c r. Unit {0}) → ⊥
+
+-- That two files are of the two editions, with the same boxes, is not enough: a sum wraps in the one and not in the other, and such a chart is refused by 14.
+abbrev pub EditionsEndApart : Type 0
+EditionsEndApart = EndsAlikeWhere OtherEdition → ⊥
 
 -- "high-water notices, carry 0": chart D's names no input, and under surveillance it names one.
 abbrev pub HighWaterNamesNone : Type 0

@@ -1,21 +1,24 @@
--- Instances of demand 3 that meet all that it supposes, and what they are told: what it supposes can be met, and it speaks of something. And what advances of a high-water
--- run are told.
+-- Instances of demand 3 that meet all that it supposes, and what they are told: what it supposes can be met, and it speaks of something. What advances of a high-water
+-- run are told. And an instance of what a chart and its converted one tell.
 use Prim.Native.Nat.{ℕ, _-_}
 use mathlib.Core.Path.{_≡_}
 use mathlib.Core.List.{List, [], _∷_}
+use mathlib.Core.Bool.{false}
 use Rattle.chart.specs.Chart.{tableOf}
 use Rattle.decode.specs.Decode.{flow}
 use Rattle.machine.specs.Run.{valued, notice, going, over, run}
 use Rattle.begin.specs.Begin.{effective}
 use Rattle.calls.specs.Calls.{Call, load, begin, advance, answer, abandon, writeBack}
 use Rattle.runner.specs.declared.Runner.{Runner}
-use Rattle.runner.specs.State.{newRunner, runIn}
-use Rattle.runner.specs.Outcomes.{Reply, done, running, ended, ending, refused}
-use Rattle.claims.specs.Lists.{begun, tells, AllContinue}
+use Rattle.runner.specs.State.{isRunning, newRunner, runIn}
+use Rattle.runner.specs.Outcomes.{Reply, done, chart, running, ended, ending, refused, call}
+use Rattle.claims.specs.Lists.{begun, tells, Along, AllContinue}
 use Rattle.claims.specs.Demand3.{AllowedAlike, Begins, SameLimit, SomeAnswer}
 use Rattle.claims.specs.OneFile.{afterLoad}
 use Rattle.examples.specs.Charts.{chartA, chartB, chartE, zerosTwo}
+use Rattle.convert_claims.specs.Conversions.{ConvertsTo, TellsNoEdition}
 use Rattle.examples.specs.Cases.{replied}
+use Rattle.examples.specs.Conversions.{chartATwo}
 
 -- "their pasts may differ": a runner that has only loaded a file, and one that has run it bare since, to the ending.
 abbrev pub justLoaded : List ℕ → Runner
@@ -102,3 +105,19 @@ AnsweringIsMet =
     × AllContinue everyKind (begun 1 (7 ∷ []) 0 2 (loadedAndRun chartE (3 ∷ [])))
     × Replies everyKind (begun 1 (7 ∷ []) 0 2 (loadedAndRun chartE (3 ∷ [])))
     (running 1 ∷ refused 22 0 ∷ refused 22 0 ∷ refused 12 0 ∷ refused 24 0 ∷ ended 2 ∷ refused 23 0 ∷ ending (valued 5) 2 ∷ [])
+
+-- 02, f: "the converted chart must end as the original does". Chart A and its converted one, loaded into a new runner and into one whose run of another chart has ended, and then calls of every kind: a write back
+-- that is refused, two advances, and a load of chart E, which both hold afterwards.
+abbrev pub callsOfBoth : List Call
+callsOfBoth = begin 1 (7 ∷ 9 ∷ []) 2 0 ∷ writeBack [] ∷ advance 1 ∷ advance 4095 ∷ answer ∷ load chartE ∷ begin 2 (7 ∷ []) 0 0 ∷ abandon ∷ []
+
+abbrev pub repliesOfBoth : List Reply
+repliesOfBoth = done ∷ refused 12 0 ∷ running 1 ∷ ended 3 ∷ ending (valued 9) 3 ∷ chart 1 2 ∷ done ∷ done ∷ []
+
+abbrev pub ConversionIsMet : Type 0
+ConversionIsMet =
+    ConvertsTo chartA chartATwo
+    × Along TellsNoEdition callsOfBoth (call (load chartA) newRunner .next)
+    × (isRunning (loadedAndRun chartB (4 ∷ [])) ≡ false)
+    × Replies (load chartA ∷ callsOfBoth) newRunner (chart 2 3 ∷ repliesOfBoth)
+    × Replies (load chartATwo ∷ callsOfBoth) (loadedAndRun chartB (4 ∷ [])) (chart 2 3 ∷ repliesOfBoth)

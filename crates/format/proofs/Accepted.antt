@@ -1,7 +1,7 @@
--- What it says of a file that its checks pass: one record of facts, which load, show a box and the round trip cite.
+-- What it says of a file that its checks pass: one record of facts, which load, show a box, the round trip and the converter cite. And that no refusal has a number above 6.
 -- Assumes nothing.
 use Prim.Native.Nat.{ℕ, _*_, _-_, _≤_, _<_}
-use mathlib.Core.Path.{_≡_, refl}
+use mathlib.Core.Path.{_≡_, refl, ap}
 use mathlib.Core.List.{List, [], _∷_}
 use mathlib.Core.Bool.{Bool, true, false, cond, not}
 use native.Mathlib.Omega.{arith}
@@ -12,6 +12,7 @@ use Rattle.boxes.specs.Bytes.{at, part, allZero}
 use Rattle.format.specs.Search.{firstFailing}
 use Rattle.format.specs.File.{blocksOf, blocksFor, headerOf, isEdition, inRange, lengthRule, checkRule, lettersRule, headerRule, placeRule, refusal, checkFile}
 use Rattle.format.specs.declared.Header.{Header}
+use Rattle.format.specs.declared.Refusal.{Refusal}
 use Rattle.format.specs.declared.Checked.{Checked}
 use Rattle.format.specs.declared.Checked.the-variants as checked
 use Rattle.boxes.proofs.Bools.{and-left, and-right, every}
@@ -42,9 +43,35 @@ pub record Accepted (f : List ℕ) (h : Header) : Type 0 where
   pub places : (p : ℕ) → p < 51 * (blocksFor (h .boxes) - 1) → placeRule f h p ≡ true
 
 -- A check that a file passed did not refuse it.
-passed : (b : Bool) {x : Checked} (number detail : ℕ) {h : Header} → cond b (checked.Refused (refusal number detail)) x ≡ checked.Accepted h → (b ≡ false) × (x ≡ checked.Accepted h)
+pub passed : (b : Bool) {x : Checked} (number detail : ℕ) {h : Header} → cond b (checked.Refused (refusal number detail)) x ≡ checked.Accepted h → (b ≡ false) × (x ≡ checked.Accepted h)
 passed true number detail e = let z : _≡_ {A = ℕ} 0 1 = cc in absurd (omega arith)
 passed false number detail e = (refl, e)
+
+-- No refusal has a number above 6.
+six-at-most : (b : Bool) {x : Checked} (number detail : ℕ) (r : Refusal) → number ≤ 6 → cond b (checked.Refused (refusal number detail)) x ≡ checked.Refused r
+    → (x ≡ checked.Refused r → r .number ≤ 6) → r .number ≤ 6
+six-at-most true number detail r l e rest =
+    let same : refusal number detail ≡ r = cc in
+    let is = ap (λ (z : Refusal). z .number) same in
+    omega arith
+six-at-most false number detail r l e rest = rest e
+
+accepts-none : {h : Header} {r : Refusal} → checked.Accepted h ≡ checked.Refused r → r .number ≤ 6
+accepts-none e = let z : _≡_ {A = ℕ} 0 1 = cc in absurd (omega arith)
+
+pub refused-at-most-six : (f : List ℕ) (r : Refusal) → checkFile f ≡ checked.Refused r → r .number ≤ 6
+unfolding checkFile
+refused-at-most-six f r e =
+    let blocks = blocksOf f in
+    let places = 51 * (blocks - 1) in
+    let wrong = firstFailing (checkRule f (headerOf f)) blocks in
+    let broken = firstFailing (placeRule f (headerOf f)) places in
+    six-at-most (not (lengthRule (length f))) 1 0 r (omega arith) e
+    (λ e. six-at-most (ltb wrong blocks) 2 wrong r (omega arith) e
+    (λ e. six-at-most (not (lettersRule f)) 3 0 r (omega arith) e
+    (λ e. six-at-most (not (headerRule f)) 4 0 r (omega arith) e
+    (λ e. six-at-most (not (eqb blocks (blocksFor (headerOf f .boxes)))) 5 0 r (omega arith) e
+    (λ e. six-at-most (ltb broken places) 6 broken r (omega arith) e (λ e. accepts-none e))))))
 
 letters-of : (f : List ℕ) → lettersRule f ≡ true → Letters f × (isEdition (headerOf f .edition) ≡ true)
 letters-of f e =

@@ -1,5 +1,5 @@
--- Laws of firstFailing: how a loop that counts up looks for the number, what it says where no number fails, and which number it is.
--- search-start, search-more, search-stop, search-end; all-hold; first-is. Assumes nothing.
+-- Laws of firstFailing: how a loop that counts up looks for the number, what it says where no number fails and where one does, and which number it is.
+-- search-start, search-more, search-stop, search-end; all-hold, none-fails; first-is, first-says. Assumes nothing.
 use Prim.Native.Nat.{ℕ, zero, suc, _+_, _-_, _≤_, _<_}
 use mathlib.Core.Path.{_≡_, refl, ap, sym, _∙_}
 use mathlib.Core.Bool.{Bool, true, false, cond}
@@ -52,6 +52,15 @@ module _ (test : ℕ → Bool) where
   pub all-hold : (count : ℕ) → ltb (firstFailing test count) count ≡ false → (j : ℕ) → j < count → test j ≡ true
   all-hold count e j l = all-from count 0 (omega (arith, ltb-false (firstFailing test count) count e)) j (omega arith) (omega arith)
 
+  none-from : (left i : ℕ) → ((j : ℕ) → j < i + left → test j ≡ true) → firstFrom test i left ≡ i + left
+  unfolding firstFrom
+  none-from zero i holds = omega arith
+  none-from (suc left) i holds = rw (holds i (omega arith)) (none-from left (i + 1) (λ j l. holds j (omega arith)) ∙ omega arith)
+
+  -- No number fails.
+  pub none-fails : (count : ℕ) → ((j : ℕ) → j < count → test j ≡ true) → firstFailing test count ≡ count
+  none-fails count holds = none-from count 0 (λ j l. holds j (omega arith)) ∙ omega arith
+
   first-from : (left k i : ℕ) → k ≤ i → i < k + left → ((j : ℕ) → j < i → test j ≡ true) → test i ≡ false → firstFrom test k left ≡ i
   unfolding firstFrom
   first-from zero k i l q before here = absurd (omega arith)
@@ -64,3 +73,26 @@ module _ (test : ℕ → Bool) where
   -- The number that fails where those below it do not.
   pub first-is : (count i : ℕ) → i < count → ((j : ℕ) → j < i → test j ≡ true) → test i ≡ false → firstFailing test count ≡ i
   first-is count i l before here = first-from count 0 i (omega arith) (omega arith) before here
+
+  -- What a search that found i says: it fails, and those from k on that are below it do not.
+  abbrev Found : (k i : ℕ) → Type 0
+  Found k i = ((j : ℕ) → k ≤ j → j < i → test j ≡ true) × (test i ≡ false)
+
+  says-from : (left k : ℕ) → firstFrom test k left < k + left → Found k (firstFrom test k left)
+  unfolding firstFrom
+  says-from zero k l = absurd (omega arith)
+  says-from (suc left) k l = on (test k) refl l (λ m. says-from left (k + 1) m)
+    where
+      on : (b : Bool) → test k ≡ b → cond b (firstFrom test (k + 1) left) k < k + suc left
+          → (firstFrom test (k + 1) left < k + 1 + left → Found (k + 1) (firstFrom test (k + 1) left))
+          → Found k (cond b (firstFrom test (k + 1) left) k)
+      on true e q rest =
+          let r = rest (omega arith) in
+          (λ j m n. ⊎-elim (λ d. ap test (sym d) ∙ e) (λ d. r .0 j (omega arith) n) (eq-or-lt-of-le m), r .1)
+      on false e q rest = (λ j m n. absurd (omega arith), e)
+
+  -- One fails: it does, and those below it do not.
+  pub first-says : (count : ℕ) → firstFailing test count < count → ((j : ℕ) → j < firstFailing test count → test j ≡ true) × (test (firstFailing test count) ≡ false)
+  first-says count l =
+      let s = says-from count 0 (omega arith) in
+      (λ j m. s .0 j (omega arith) m, s .1)

@@ -1,4 +1,4 @@
--- The first number that fails a test: the details of refusals 2 and 6.
+-- The first number that fails a test: the details of refusals 2, 6 and 14.
 use Prim.Native.Nat.{ℕ, zero, suc, _+_}
 use mathlib.Core.Bool.{Bool, cond}
 

@@ -11,6 +11,7 @@ use Rattle.format.proofs.Accepted.{accepted}
 use Rattle.chart.specs.Chart.{tableOf}
 use Rattle.chart.specs.WriteBack.{fileLength, putFile}
 use Rattle.chart.proofs.Writes.{put-fits}
+use Rattle.chart.specs.declared.Written.the-variants as written
 use Rattle.marks.specs.Marks.{modeOf}
 use Rattle.machine.specs.Run.{Progress}
 use Rattle.begin.specs.Begin.{effective, firstVars, firstMarks}
@@ -23,7 +24,6 @@ use Rattle.runner.specs.declared.Runner.{Runner}
 use Rattle.runner.specs.declared.LoadTold.the-variants as load
 use Rattle.runner.specs.declared.AdvanceTold.{AdvanceTold}
 use Rattle.runner.specs.declared.AnswerTold.the-variants as answer
-use Rattle.runner.specs.declared.Written.the-variants as written
 use Rattle.runner.specs.State.{chartIn, standingOf, endingIn, runnerOf, idle, dropped, ran, resumed}
 use Rattle.runner.specs.Outcomes.{outcome, after, progressReply, says, outcomeBy, call}
 use Rattle.runner.specs.Outcomes as outcomes

@@ -1,4 +1,6 @@
 -- What the code's answers tell, one definition for each enum: document 01's number, detail and values for every case.
+use Rattle.chart.specs.declared.Written.{Written}
+use Rattle.chart.specs.declared.Written.the-variants as written
 use Rattle.machine.specs.Run.{valued, notice, spent}
 use Rattle.calls.specs.declared.Verdict.{Verdict}
 use Rattle.calls.specs.declared.Verdict.the-variants as verdict
@@ -9,8 +11,6 @@ use Rattle.runner.specs.declared.AdvanceTold.{AdvanceTold}
 use Rattle.runner.specs.declared.AdvanceTold.the-variants as advance
 use Rattle.runner.specs.declared.AnswerTold.{AnswerTold}
 use Rattle.runner.specs.declared.AnswerTold.the-variants as answer
-use Rattle.runner.specs.declared.Written.{Written}
-use Rattle.runner.specs.declared.Written.the-variants as written
 
 unfoldable pub loadReply : LoadTold → Reply
 loadReply (load.Chart inputs boxes) = chart inputs boxes

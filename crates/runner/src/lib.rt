@@ -1,5 +1,6 @@
 // The runner and its six calls.
 use calls::Verdict;
+use chart::Written;
 use format::Checked;
 use format::Header;
 use format::Refusal;
@@ -69,12 +70,6 @@ pub enum AnswerTold {
     Value { value: u32, steps: u32 },
     Notice { named: u16, steps: u32 },
     Spent(u32),
-    Refused(Refusal),
-}
-
-// What write back tells.
-pub enum Written {
-    Length(usize),
     Refused(Refusal),
 }
 

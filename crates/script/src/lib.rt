@@ -1,8 +1,8 @@
 // The library for callers in other languages: a list of calls, given as numbers, and what each tells. `flow_script` has no equation: what it tells is compared with plain Rust.
 //
-// A call is 24 numbers: its kind, then its arguments. 0 load and 6 show a box: where the file starts among the lent bytes, its length, and the number of
-// the box; 1 begin: mode, allowed set, limit, how many inputs, and the inputs; 2 advance: the amount; 3 answer; 4 abandon; 5 write back: how many
-// bytes of the buffer are lent.
+// A call is 24 numbers: its kind, then its arguments. 0 load, 6 show a box and 7 convert: where the file starts among the lent bytes, its length, and of 6 the number of
+// the box, of 7 how many bytes of the buffer are lent; 1 begin: mode, allowed set, limit, how many inputs, and the inputs; 2 advance: the amount; 3 answer; 4 abandon; 5 write
+// back: how many bytes of the buffer are lent.
 use runner::Runner;
 use told::Encoded;
 use told::kinds;
@@ -75,6 +75,12 @@ fn write(runner: Runner, room: u32, buf: &mut [u8]) -> Turn {
     after(runner, told, sum_of(buf))
 }
 
+fn convert(runner: Runner, file: &[u8], room: u32, buf: &mut [u8]) -> Turn {
+    let end = least(room as usize, buf.len());
+    let told = told::of_written(convert::convert(file, &mut buf[..end]));
+    after(runner, told, sum_of(buf))
+}
+
 // One call.
 fn make(runner: Runner, files: &[u8], words: &[u32], buf: &mut [u8]) -> Turn {
     match word(words, 0) {
@@ -99,6 +105,12 @@ fn make(runner: Runner, files: &[u8], words: &[u32], buf: &mut [u8]) -> Turn {
             after(next, told::of_verdict(told), 0)
         }
         5 => write(runner, word(words, 1), buf),
+        7 => convert(
+            runner,
+            part(files, word(words, 1), word(words, 2)),
+            word(words, 3),
+            buf,
+        ),
         _ => {
             let shown = chart::show_box(
                 part(files, word(words, 1), word(words, 2)),

@@ -40,6 +40,8 @@ const WRITE: u32 = 0x7772;
 
 const SHOW: u32 = 0x7368;
 
+const CONVERT: u32 = 0x636f;
+
 const NEW: u32 = 0x6e65;
 
 const EXPECT: u32 = 0x6578;
@@ -119,6 +121,7 @@ fn call(pair: Pair, line: &[u8], file: &File) -> Pair {
         ABANDON => pair.abandon(),
         WRITE => pair.write_back(first as usize, second as usize, low(number(line, 3))),
         SHOW => pair.show(front(file, first as usize), second),
+        CONVERT => pair.convert(front(file, first as usize), 7, second as usize, 9),
         NEW => pair.renew(),
         EXPECT => expect(pair, line),
         _ => no_command(pair, line),

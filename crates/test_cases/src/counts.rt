@@ -37,6 +37,12 @@ const EDITION: u32 = 51;
 // Loads of files with two blocks exchanged, by edition: loaded, refused by 2, and by 6.
 const EXCHANGED: u32 = 53;
 
+// Files converted, by the edition that they are of.
+const CONVERTED: u32 = 59;
+
+// Endings of a chart and of its converted one, which are one ending.
+pub const ALIKE: u32 = 61;
+
 // Where a call is counted that told this; one that was just done is counted at `done`.
 pub fn place(t: Encoded, done: u32) -> u32 {
     let kind = t.kind;
@@ -71,6 +77,18 @@ pub fn edition(t: Encoded, edition: u32) -> u32 {
         return 0;
     }
     if edition == 1 { EDITION } else { EDITION + 1 }
+}
+
+// Where a conversion of a file of an edition is counted; a refusal at its number.
+pub fn converted(t: Encoded, edition: u32) -> u32 {
+    if t.kind == kinds::REFUSED {
+        return (t.first % 64) as u32;
+    }
+    if edition == 1 {
+        CONVERTED
+    } else {
+        CONVERTED + 1
+    }
 }
 
 // Where a load of a file with two blocks exchanged is counted; nowhere that is printed, where a run was under way.

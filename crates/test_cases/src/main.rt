@@ -1,5 +1,6 @@
 // Runs the cases of document 01 that are not marked (P), which standard input has, and random lists of calls, on the runner and on the second
 // interpreter. It stops at the first difference, and else says what was reached. Its functions have no equations: what it prints is compared.
+mod alike;
 mod commands;
 mod compare;
 mod counts;
@@ -20,18 +21,22 @@ const SEED: u64 = 88172645463325252;
 // The random cases are numbered from 1, below this.
 const CASES: u32 = 100000;
 
-// A chart's file and a list of calls with it. The pair is often the one that the case before left.
+// A chart's file and a list of calls with it; at times the chart is run beside its converted one. The pair is often the one that the case before left.
 fn random_case(pair: Pair, state: &mut u64, file: &mut File) -> Pair {
     if !pair.same {
         return pair;
     }
     let drawn = damage::draw(state, file);
     let now = if one_in(state, 8) { pair.renew() } else { pair };
-    random_calls::list(
+    let after = random_calls::list(
         now.of_file(drawn.exchanged),
         state,
         front(file, drawn.length),
-    )
+    );
+    if one_in(state, 4) {
+        return alike::runs(after, state, front(file, drawn.length));
+    }
+    after
 }
 
 fn random_cases(file: &mut File) -> Pair {

@@ -3,6 +3,7 @@
 use crate::compare;
 use crate::counts;
 use crate::report;
+use crate::text::part;
 use runner::Runner;
 use test_samples::files::byte;
 use test_second::Model;
@@ -73,6 +74,16 @@ fn shown(file: &[u8], at: usize) -> Encoded {
 
 fn same_buffers(one: &[u8; 2640], two: &[u8; 2640]) -> bool {
     check::same(one, two)
+}
+
+// The part of a buffer from a place on, as long as a file, is converted to that file.
+fn goes_back(file: &[u8], buffer: &[u8; 2640], start: usize) -> bool {
+    let mut back = [0u8; 2560];
+    let all: &[u8] = buffer;
+    let length = file.len();
+    let end = std::num::wrapping_add_usize(start, length);
+    let told = told::of_written(convert::convert(part(all, start, end), &mut back));
+    (told.kind == kinds::WRITTEN) & check::same(part(&back, 0, length), file)
 }
 
 impl Pair {
@@ -264,6 +275,39 @@ impl Pair {
             return pair;
         }
         pair.differ(b"buffer after write back", first, first)
+    }
+
+    // A conversion into buffers filled with one byte, as for write back. What was written is converted back, to the file.
+    pub fn convert(mut self, file: &[u8], from: usize, room: usize, filled: u8) -> Pair {
+        let start = from % 40;
+        let end = start + room % 2601;
+        let mut one = [filled; 2640];
+        let mut two = [filled; 2640];
+        let first = told::of_written(convert::convert(file, &mut one[start..end]));
+        let second = compare::of_model(test_second::convert(file, &mut two[start..end]));
+        self.told = first;
+        self.calls = std::num::wrapping_add_u32(self.calls, 1);
+        if !(compare::same(first, second) & same_buffers(&one, &two)) {
+            return self.differ(b"convert", first, second);
+        }
+        if first.kind == kinds::WRITTEN {
+            if !goes_back(file, &one, start) {
+                return self.differ(b"convert back", first, first);
+            }
+        }
+        self.count(counts::converted(first, byte(file, 4)))
+    }
+
+    // What a chart and its converted one told of one call.
+    pub fn alike(self, original: Encoded, converted: Encoded) -> Pair {
+        let kind = original.kind;
+        if !compare::same(original, converted) {
+            return self.differ(b"the converted chart", original, converted);
+        }
+        match kind {
+            kinds::VALUE | kinds::NOTICE | kinds::SPENT => self.count(counts::ALIKE),
+            _ => self,
+        }
     }
 
     // Show a box: told as the length of the part and its first byte, and the bytes are compared.

@@ -2,6 +2,7 @@
 use crate::pair::Pair;
 use test_samples::arguments;
 use test_samples::arguments::first_inputs;
+use test_samples::files::byte;
 use test_samples::files::low;
 use test_samples::random;
 use test_samples::random::below;
@@ -20,6 +21,13 @@ fn write_back(pair: Pair, state: &mut u64) -> Pair {
     let from = below(state, 40) as usize;
     let byte = low(random::next(state));
     pair.write_back(from, room, byte)
+}
+
+fn convert(pair: Pair, state: &mut u64, file: &[u8]) -> Pair {
+    let room = arguments::room(state, byte(file, 6));
+    let from = below(state, 40) as usize;
+    let filled = low(random::next(state));
+    pair.convert(file, from, room, filled)
 }
 
 fn call(pair: Pair, state: &mut u64, file: &[u8]) -> Pair {
@@ -44,6 +52,9 @@ fn call(pair: Pair, state: &mut u64, file: &[u8]) -> Pair {
     }
     if kind < 29 {
         return write_back(pair, state);
+    }
+    if kind == 29 {
+        return convert(pair, state, file);
     }
     pair.show(file, arguments::number(state, file))
 }

@@ -66,13 +66,13 @@ pub fn difference(what: &[u8], number: u32, call: u32, first: Encoded, second: E
     say(b"difference: ");
     say(what);
     fill(b", case %, call %\n", &[number as u64, call as u64]);
-    case(b"  runner", first);
-    case(b"  model", second);
+    case(b"  one", first);
+    case(b"  other", second);
 }
 
 // The numbers 1 to 24, but 11, which is the run program's, and those that no refusal has.
 fn is_refusal(i: u64) -> bool {
-    (i <= 10) | (i == 12) | (i == 13) | (20 < i)
+    (i <= 10) | ((12 <= i) & (i <= 14)) | (20 < i)
 }
 
 fn refusals(counts: &[u64; 64]) {
@@ -101,8 +101,10 @@ notices that name: no input %, one %, more %
 files loaded: edition 1 %, edition 2 %
 two blocks exchanged in edition 1: loaded %, refused by 2 %, by 6 %
 two blocks exchanged in edition 2: loaded %, refused by 2 %, by 6 %
+files converted: from edition 1 %, from edition 2 %
+endings of a chart and of its converted one: %
 ",
-        &all[25..59],
+        &all[25..62],
     );
     refusals(counts);
 }

@@ -100,7 +100,7 @@ pub fn amount(state: &mut u64, limit: u32) -> u32 {
     }
 }
 
-// The room of a write back: around the length of the file, none, or any.
+// The room of a write back or of a conversion: around the length of the file, none, or any.
 pub fn room(state: &mut u64, boxes: u32) -> usize {
     let length = files::length_of(boxes);
     let kind = below(state, 8);

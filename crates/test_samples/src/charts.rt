@@ -1,4 +1,4 @@
-// Random charts that obey the rules: of both editions and all sizes, with loops, every operation and comparison, and halts on many ways.
+// Random charts that obey the rules: of both editions and all sizes, with loops, every operation and comparison, and halts on many ways; often all boxes are alike in both editions.
 use crate::files;
 use crate::files::File;
 use crate::files::low;
@@ -7,10 +7,12 @@ use crate::random::below;
 use crate::random::one_in;
 ghost use Prim.Native.Nat.{_≤_, _<_};
 
-// A chart's numbers of inputs and of boxes.
+// A chart's numbers of inputs and of boxes, its edition, and a number below which its boxes are alike in both editions.
 pub struct Shape {
     pub inputs: u32,
     pub boxes: u32,
+    edition: u32,
+    alike: u32,
 }
 
 // Often few boxes, often a number at which a file gets a block more.
@@ -60,11 +62,20 @@ fn operand(state: &mut u64, k: u32) -> u8 {
     low(below(state, k))
 }
 
-fn operation(state: &mut u64) -> u8 {
+// Operations 2, 3 and 11 are those in which the editions differ.
+fn operation(state: &mut u64, alike: bool) -> u8 {
     if one_in(state, 6) {
         return 0;
     }
-    low(below(state, 12))
+    let op = low(below(state, 12));
+    if !alike {
+        return op;
+    }
+    match op {
+        2 | 3 => 1,
+        11 => 10,
+        _ => op,
+    }
 }
 
 // Whether an operation other than 0 reads its right operand in an edition.
@@ -76,11 +87,11 @@ fn reads_right(edition: u32, op: u8) -> bool {
     }
 }
 
-fn assignment(state: &mut u64, edition: u32, k: u32, next: u8) -> [u8; 10] {
+fn assignment(state: &mut u64, shape: Shape, p: u32, next: u8) -> [u8; 10] {
     let target = variable(state);
-    let op = operation(state);
-    let left = operand(state, k);
-    let right = operand(state, k);
+    let op = operation(state, p < shape.alike);
+    let left = operand(state, shape.inputs);
+    let right = operand(state, shape.inputs);
     let c = random::edge(state);
     if op == 0 {
         return [
@@ -96,7 +107,7 @@ fn assignment(state: &mut u64, edition: u32, k: u32, next: u8) -> [u8; 10] {
             low(c / 16777216),
         ];
     }
-    if reads_right(edition, op) {
+    if reads_right(shape.edition, op) {
         return [1, target, op, left, right, next, 0, 0, 0, 0];
     }
     [1, target, op, left, 0, next, 0, 0, 0, 0]
@@ -109,23 +120,33 @@ fn decision(state: &mut u64, k: u32, next: u8, other: u8) -> [u8; 10] {
     [2, 0, comparison, left, right, next, other, 0, 0, 0]
 }
 
-fn random_box(state: &mut u64, edition: u32, k: u32, n: u32, p: u32) -> [u8; 10] {
+fn random_box(state: &mut u64, shape: Shape, p: u32) -> [u8; 10] {
     let kind = below(state, 16);
-    let next = next_box(state, n, p);
+    let next = next_box(state, shape.boxes, p);
     if kind < 11 {
-        return assignment(state, edition, k, next);
+        return assignment(state, shape, p, next);
     }
     if kind < 14 {
-        let other = next_box(state, n, p);
-        return decision(state, k, next, other);
+        let other = next_box(state, shape.boxes, p);
+        return decision(state, shape.inputs, next, other);
     }
     [3, 0, 0, 0, 0, 0, 0, 0, 0, 0]
 }
 
-fn put_boxes(state: &mut u64, file: &mut File, edition: u32, k: u32, n: u32) {
-    for p in 0..n {
-        let b = random_box(state, edition, k, n, p);
+fn put_boxes(state: &mut u64, file: &mut File, shape: Shape) {
+    for p in 0..shape.boxes {
+        let b = random_box(state, shape, p);
         files::put_box(file, p, b);
+    }
+}
+
+// Often all boxes of a chart are alike in both editions, and often those below one of them.
+fn alike_below(state: &mut u64, n: u32) -> u32 {
+    let kind = below(state, 6);
+    match kind {
+        0 | 1 => n,
+        2 => below(state, n),
+        _ => 0,
     }
 }
 
@@ -135,12 +156,16 @@ pub fn make(state: &mut u64, file: &mut File) -> Shape {
     let k = below(state, 17);
     let first = below(state, n);
     let edition = 1 + below(state, 2);
-    files::clear(file);
-    files::put_header(file, edition, k, n, first);
-    put_boxes(state, file, edition, k, n);
-    files::mend(file);
-    Shape {
+    let alike = alike_below(state, n);
+    let shape = Shape {
         inputs: k,
         boxes: n,
-    }
+        edition,
+        alike,
+    };
+    files::clear(file);
+    files::put_header(file, edition, k, n, first);
+    put_boxes(state, file, shape);
+    files::mend(file);
+    shape
 }

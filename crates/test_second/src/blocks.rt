@@ -53,7 +53,7 @@ fn own_number(file: &[u8], block: u32) -> u32 {
 // The sum over positions 0 to 510 of (position + 1) times byte, modulo 65,536, with `own_number` for
 // the byte at 510: it adds 511 times the block's number, or nothing. From the last byte down, `tail`
 // is added at each position, so the byte at position p is added p + 1 times.
-fn weighted(file: &[u8], block: u32) -> u32 {
+pub fn weighted(file: &[u8], block: u32) -> u32 {
     let mut tail = own_number(file, block);
     let mut total = tail;
     let mut left: u32 = 510;

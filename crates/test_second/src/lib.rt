@@ -5,12 +5,15 @@
 ghost use Prim.Native.Nat.{_≤_};
 
 mod blocks;
+mod editions;
 mod machine;
 mod numbers;
 mod rules;
 
 use blocks::byte;
 use blocks::start;
+use editions::differing_box;
+use editions::in_other_edition;
 use machine::Run;
 use machine::begun;
 use machine::bit;
@@ -89,7 +92,7 @@ fn filled(inputs: &[u32]) -> [u32; 32] {
     vars
 }
 
-// The first `count` bytes of the kept file are put at the front of `out`.
+// The first `count` of a file's bytes are put at the front of `out`.
 fn copied(bytes: &[u8; 2560], out: &mut [u8], count: usize)
     requires { do ⌜ (count ≤ 2560) × (count ≤ (← ⟦out.len()⟧)) ⌝ }
 {
@@ -310,4 +313,28 @@ pub fn show(file: &[u8], number: u32) -> usize {
         return 0;
     }
     start(number)
+}
+
+// Puts the other edition's file of the same chart at the front of `buf`: 1 to 2, or 2 to 1. A box that
+// the other edition has not, or takes otherwise, is told before a buffer that is too short.
+pub fn convert(file: &[u8], buf: &mut [u8]) -> Told {
+    let verdict = judged(file);
+    let number = verdict.number;
+    let detail = verdict.detail;
+    if number != 0 {
+        return refused(number, detail);
+    }
+    let n = byte(file, 6);
+    let place = differing_box(file, n);
+    if place < n {
+        return refused(14, place);
+    }
+    let length = size_of(file);
+    let count = length as usize;
+    if buf.len() < count {
+        return refused(12, 0);
+    }
+    let bytes = in_other_edition(kept(file));
+    copied(&bytes, buf, count);
+    counted(8, length)
 }

@@ -1,4 +1,5 @@
 // What a file must be to hold a chart: the six input checks of load, in their order.
+ghost use Prim.Native.Nat.{_≤_};
 use crate::blocks::all_zero;
 use crate::blocks::byte;
 use crate::blocks::constant;
@@ -14,7 +15,9 @@ pub struct Verdict {
 }
 
 // The length of a file, or 0 where no chart file has that length.
-pub fn size_of(file: &[u8]) -> u32 {
+pub fn size_of(file: &[u8]) -> u32
+    ensures { λ r. ⌜ r ≤ 2560 ⌝ }
+{
     match file.len() {
         1024 => 1024,
         1536 => 1536,

@@ -1,4 +1,4 @@
-// Follows the chart of docs/WALKTHROUGH.md from its file to its answers and back to a file, and prints each stage.
+// Follows the chart of docs/WALKTHROUGH.md from its file to its answers and back to a file, and to a file of the other edition, and prints each stage.
 use runner::Runner;
 use told::Encoded;
 use told::kinds;
@@ -86,9 +86,9 @@ fn part(bytes: &[u8], from: usize, to: usize) -> &[u8] {
     &bytes[0..0]
 }
 
-// The check of a block in edition 1: as it is summed, and as the block holds it.
-fn print_check(block: &[u8]) {
-    number(b"  check ", format::checksum(0, block) as u64);
+// The check of a block, with so much added: as it is summed, and as the block holds it.
+fn print_check(words: &[u8], added: u32, block: &[u8]) {
+    number(words, format::checksum(added, block) as u64);
     row(b", bytes 510 and 511:", part(block, 510, 512));
 }
 
@@ -113,14 +113,14 @@ fn print_file(file: &[u8]) {
         b"  bytes 8 to 509 are 0: ",
         boxes::all_zero(part(head, 8, 510)),
     );
-    print_check(head);
+    print_check(b"  check ", format::addend(1, 0), head);
     say(b"block 1\n");
     print_boxes(file);
     yes_or_no(
         b"  bytes 70 to 509 are 0: ",
         boxes::all_zero(part(later, 70, 510)),
     );
-    print_check(later);
+    print_check(b"  check ", format::addend(1, 1), later);
 }
 
 // An input by the set that it begins a run with: an allowed one begins with none.
@@ -208,6 +208,65 @@ fn write_back(runner: Runner, file: &[u8]) {
     print_buffer(file, &buffer);
 }
 
+fn check_of_boxes(bytes: &[u8; 1024]) -> u32 {
+    let all: &[u8] = bytes;
+    format::checksum(format::addend(1, 1), part(all, 512, 1024))
+}
+
+// The held chart's file with 1,000 as box 3's constant, where its sum was, and the check of block 1 made right.
+fn with_constant(runner: Runner) -> [u8; 1024] {
+    let mut bytes = [0u8; 1024];
+    runner.write_back(&mut bytes);
+    bytes[544] = 0;
+    bytes[545] = 0;
+    bytes[546] = 0;
+    bytes[548] = 232;
+    bytes[549] = 3;
+    let check = check_of_boxes(&bytes);
+    bytes[1022] = (check % 256) as u8;
+    bytes[1023] = (check / 256 % 256) as u8;
+    bytes
+}
+
+fn are_the_file(bytes: &[u8; 1024], file: &[u8]) -> bool {
+    let all: &[u8] = bytes;
+    check::same(all, file)
+}
+
+fn convert(words: &[u8], file: &[u8], buffer: &mut [u8; 1024]) {
+    let told = convert::convert(file, &mut buffer[..]);
+    print_told(words, told::of_written(told));
+}
+
+// The file of edition 2, and what it is converted back to.
+fn print_converted(file: &[u8], converted: &[u8; 1024]) {
+    let all: &[u8] = converted;
+    let mut back = [0u8; 1024];
+    row(b"  bytes 0 to 7:", part(all, 0, 8));
+    print_check(
+        b"  block 0: check ",
+        format::addend(2, 0),
+        part(all, 0, 512),
+    );
+    print_check(
+        b"  block 1: check ",
+        format::addend(2, 1),
+        part(all, 512, 1024),
+    );
+    load(Runner::new(), b"load of those bytes: ", all);
+    convert(b"convert those bytes: ", all, &mut back);
+    yes_or_no(b"  they are the file's: ", are_the_file(&back, file));
+}
+
+fn conversions(runner: Runner, file: &[u8]) {
+    let mut buffer = [0u8; 1024];
+    convert(b"convert: ", file, &mut buffer);
+    let constant = with_constant(runner);
+    print_box(&constant, 3);
+    convert(b"convert: ", &constant, &mut buffer);
+    print_converted(&constant, &buffer);
+}
+
 fn main() {
     let mut space = [0u8; 2561];
     let length = serve::read_chart(&mut space);
@@ -216,4 +275,5 @@ fn main() {
     print_allowed();
     let runner = load(Runner::new(), b"load: ", file);
     write_back(runs(runner), file);
+    conversions(runner, file);
 }

@@ -1,12 +1,12 @@
-// What the runner's calls tell, as three numbers: for callers in other languages, and for tests.
+// What the runner's calls and the converter tell, as three numbers: for callers in other languages, and for tests.
 pub mod kinds;
 
 use calls::Verdict;
+use chart::Written;
 use format::Refusal;
 use runner::AdvanceTold;
 use runner::AnswerTold;
 use runner::LoadTold;
-use runner::Written;
 ghost use mathlib.Core.Path.{_≡_};
 ghost use Rattle.runner.specs.Outcomes.{refused};
 ghost use Rattle.runner.specs.Replies.{loadReply, verdictReply, advanceReply, answerReply, writtenReply};

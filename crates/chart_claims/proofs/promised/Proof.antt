@@ -2,6 +2,7 @@
 use Rattle.chart_claims.proofs.RoundTrip.{file-has-length, reproduces-file, reproduces-chart}
 use Rattle.chart_claims.proofs.Exchanged.{exchange-refused, out-of-order-refused, others-add-nothing}
 use Rattle.chart_claims.proofs.Rules.{obeys-rules, shows-the-box, stays-in-range}
+use Rattle.chart_claims.proofs.Ruled.{ruled-is-loaded}
 use Rattle.chart_claims.proofs.Bounds.{exact-room, last-box-shown, ends-exchanged, loads-within-bounds}
 use Rattle.chart_claims.proofs.promised.Statement.{statement}
 use Rattle.chart_claims.proofs.promised.Tie as tie
@@ -12,6 +13,7 @@ returns c = (
   reproduces-file,
   reproduces-chart,
   obeys-rules,
+  ruled-is-loaded,
   shows-the-box,
   stays-in-range,
   exchange-refused,

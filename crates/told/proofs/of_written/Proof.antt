@@ -1,4 +1,4 @@
--- `of_written` has the numbers of each of write back's answers.
+-- `of_written` has the numbers of each answer of write back and of the converter.
 use Rattle.runner.specs.Replies.{writtenReply}
 use Rattle.told.specs.Told.{encode}
 use borrow.Author.Needs.{needs}

@@ -5,10 +5,10 @@ use Rattle.test_samples.proofs.charts.put_boxes.Statement.{statement}
 use Rattle.test_samples.proofs.charts.put_boxes.Tie as tie
 
 abbrev Inv-loop : tie.InvT-loop
-Inv-loop state₀ file₀ edition k n p₀ state file p = p ≤ n
+Inv-loop state₀ file₀ shape p₀ end state file p = p ≤ end
 
 abbrev μ-loop : tie.MeasureT-loop
-μ-loop state₀ file₀ edition k n p₀ state file p = n - p
+μ-loop state₀ file₀ shape p₀ end state file p = end - p
 
 loop-holds : tie.Need-loop-holds Inv-loop μ-loop
 loop-holds c = search needs

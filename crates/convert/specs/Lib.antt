@@ -1,0 +1,2 @@
+-- The converter between the editions.
+pub mod Convert
