@@ -28,7 +28,7 @@ inOther h = record { edition = otherThan (h .edition); inputs = h .inputs; boxes
 abbrev pub isOperation : List ℕ → ℕ → Bool
 isOperation b op = eqb (at b 0) 1 && eqb (at b 2) op
 
--- A box that an edition takes as it stands in the other: none of these, "or of a kind that the other edition lacks".
+-- A box that an edition takes as it stands in the other: neither one of these nor "of a kind that the other edition lacks".
 unfoldable pub takes : (edition : ℕ) → List ℕ → Bool
 takes edition b = hasKind edition (at b 0) && not (isOperation b 2 || isOperation b 3 || isOperation b 11)
 

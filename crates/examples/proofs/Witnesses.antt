@@ -120,4 +120,5 @@ conversion-is-met = (
   refl,
   refl,
   refl,
+  refl,
 )

@@ -106,8 +106,8 @@ AnsweringIsMet =
     × Replies everyKind (begun 1 (7 ∷ []) 0 2 (loadedAndRun chartE (3 ∷ [])))
     (running 1 ∷ refused 22 0 ∷ refused 22 0 ∷ refused 12 0 ∷ refused 24 0 ∷ ended 2 ∷ refused 23 0 ∷ ending (valued 5) 2 ∷ [])
 
--- 02, f: "the converted chart must end as the original does". Chart A and its converted one, loaded into a new runner and into one whose run of another chart has ended, and then calls of every kind: a write back
--- that is refused, two advances, and a load of chart E, which both hold afterwards.
+-- 02, f: "the converted chart must end as the original does". Chart A and its converted one, loaded into a new runner and into one whose run of another chart has ended, and then
+-- calls of every kind: a write back that is refused, two advances, and a load of chart E, which both hold afterwards.
 abbrev pub callsOfBoth : List Call
 callsOfBoth = begin 1 (7 ∷ 9 ∷ []) 2 0 ∷ writeBack [] ∷ advance 1 ∷ advance 4095 ∷ answer ∷ load chartE ∷ begin 2 (7 ∷ []) 0 0 ∷ abandon ∷ []
 
@@ -118,6 +118,7 @@ abbrev pub ConversionIsMet : Type 0
 ConversionIsMet =
     ConvertsTo chartA chartATwo
     × Along TellsNoEdition callsOfBoth (call (load chartA) newRunner .next)
+    × (isRunning newRunner ≡ false)
     × (isRunning (loadedAndRun chartB (4 ∷ [])) ≡ false)
     × Replies (load chartA ∷ callsOfBoth) newRunner (chart 2 3 ∷ repliesOfBoth)
     × Replies (load chartATwo ∷ callsOfBoth) (loadedAndRun chartB (4 ∷ [])) (chart 2 3 ∷ repliesOfBoth)

@@ -64,7 +64,7 @@ fn run(two: Two, state: &mut u64, k: u32) -> Two {
     let mut drawn = [0u32; 20];
     arguments::inputs(state, &mut drawn);
     let inputs = first_inputs(&drawn, a.count);
-    let limit = if a.limit == 0 { 4096 } else { a.limit };
+    let limit = arguments::steps_within(a.limit);
     let begun = both(
         two,
         begin(two.original, a, inputs),

@@ -1,5 +1,6 @@
 // Runs the cases of document 01 that are not marked (P), which standard input has, and random lists of calls, on the runner and on the second
-// interpreter. It stops at the first difference, and else says what was reached. Its functions have no equations: what it prints is compared.
+// interpreter; and charts beside their converted ones, on two runners. It stops at the first difference, and else says what was reached. Its functions have no
+// equations: what it prints is compared.
 mod alike;
 mod commands;
 mod compare;

@@ -5,6 +5,7 @@ use crate::counts;
 use crate::report;
 use crate::text::part;
 use runner::Runner;
+use test_samples::arguments;
 use test_samples::files::byte;
 use test_second::Model;
 use test_second::Turn;
@@ -189,7 +190,7 @@ impl Pair {
         if begun.kind != kinds::DONE {
             return self;
         }
-        let most = if limit == 0 { 4096 } else { limit };
+        let most = arguments::steps_within(limit);
         let turn = self.model.advance(most);
         let t = compare::of_model(turn.told);
         let whole = compare::of_model(turn.model.answer());

@@ -70,6 +70,11 @@ fn limit(state: &mut u64, bad: bool) -> u32 {
     }
 }
 
+// The steps that a limit means.
+pub fn steps_within(limit: u32) -> u32 {
+    if limit == 0 { 4096 } else { limit }
+}
+
 // A begin on a chart of k inputs.
 pub fn begin(state: &mut u64, k: u32) -> Arguments {
     let bad = one_in(state, 8);
