@@ -43,6 +43,13 @@ local function reads(edition, op)
   return op ~= 0, (op >= 2 and op <= 8) or (op == 11 and edition == 2)
 end
 
+-- Whether a comparison holds.
+local function holds(comparison, x, y)
+  if comparison == 0 then return x == y end
+  if comparison == 1 then return x < y end
+  return x <= y
+end
+
 -- Load's input checks; the chart, or a refusal's number and detail.
 local function load_chart(file)
   local size = #file
@@ -74,11 +81,13 @@ local function load_chart(file)
       right = b[2] >= 16 and b[2] < 32 and op <= 11 and operand(reads_left, b[4]) and operand(reads_right, b[5]) and b[6] < n and (op == 0 or zeros(7))
     elseif b[1] == 2 then
       right = b[2] == 0 and b[3] <= 2 and readable(b[4]) and readable(b[5]) and b[6] < n and b[7] < n and zeros(8)
+    elseif b[1] == 4 and edition == 2 then
+      right = b[2] >= 16 and b[2] < 32 and b[3] <= 2 and readable(b[4]) and readable(b[5]) and b[6] < n and readable(b[7]) and readable(b[8]) and zeros(9)
     else
       right = b[1] == 3 and zeros(2)
     end
     if not right then return nil, 6, p end
-    boxes[p] = { b[1], b[2], b[3], b[4], b[5], b[6], b[7], b[7] + 256 * b[8] + 65536 * b[9] + 16777216 * b[10] }
+    boxes[p] = { b[1], b[2], b[3], b[4], b[5], b[6], b[7], b[8], b[7] + 256 * b[8] + 65536 * b[9] + 16777216 * b[10] }
   end
   return { edition = edition, k = k, n = n, first = first, boxes = boxes }
 end
@@ -103,7 +112,7 @@ local function run(chart, mode, limit)
       local read = 0
       if reads_right then read = bor(marks[i], marks[j]) elseif reads_left then read = marks[i] end
       local v
-      if op == 0 then v = b[8]
+      if op == 0 then v = b[9]
       elseif op == 1 then v = x
       elseif op == 2 then v = edition == 2 and min(x + y, 4294967295) or (x + y) % 4294967296
       elseif op == 3 then v = edition == 2 and max(x - y, 0) or (x - y) % 4294967296
@@ -122,10 +131,13 @@ local function run(chart, mode, limit)
       local read = bor(marks[b[4]], marks[b[5]])
       if mode == 1 and read ~= 0 then return "notice", read, steps end
       if mode == 2 then counter = bor(counter, read) end
-      local x, y = vars[b[4]], vars[b[5]]
-      local holds
-      if b[3] == 0 then holds = x == y elseif b[3] == 1 then holds = x < y else holds = x <= y end
-      at = holds and b[6] or b[7]
+      at = holds(b[3], vars[b[4]], vars[b[5]]) and b[6] or b[7]
+    elseif kind == 4 then
+      local i, j, yes, no, t = b[4], b[5], b[7], b[8], b[2]
+      local read = bor(marks[i], marks[j], marks[yes], marks[no])
+      vars[t] = holds(b[3], vars[i], vars[j]) and vars[yes] or vars[no]
+      marks[t] = bor(band(read, take), band(marks[t], keep))
+      at = b[6]
     else
       local output = marks[31]
       if mode == 1 and output ~= 0 then return "notice", output, steps end

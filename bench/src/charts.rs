@@ -17,6 +17,11 @@ pub fn decide(comparison: u8, left: u8, right: u8, next: u8, other: u8) -> Box10
     [2, 0, comparison, left, right, next, other, 0, 0, 0]
 }
 
+/// A kind 4 box, of edition 2 alone: `yes` is copied where the comparison holds, else `no`.
+pub fn choose(target: u8, comparison: u8, left: u8, right: u8, next: u8, yes: u8, no: u8) -> Box10 {
+    [4, target, comparison, left, right, next, yes, no, 0, 0]
+}
+
 pub const HALT: Box10 = [3, 0, 0, 0, 0, 0, 0, 0, 0, 0];
 
 /// Writes the check of each block by an edition's rule: in edition 2 the check of block j adds 511 times j.
@@ -89,6 +94,27 @@ pub fn decisions(edition: u8) -> Vec<u8> {
     file(edition, 2, 0, &boxes)
 }
 
+/// Kind 4 boxes in a circle, some of whose comparisons hold and some not.
+pub fn choices() -> Vec<u8> {
+    let mut boxes = Vec::new();
+    for p in 0..30u8 {
+        let next = (p + 1) % 30;
+        let (left, right) = if p % 2 == 0 { (16, 19) } else { (19, 16) };
+        boxes.push(if p % 10 == 9 { assign(16, 2, 16, 1, next) } else { choose(17 + p % 2, p % 3, left, right, next, p % 2, 16 + p % 3) });
+    }
+    file(2, 2, 0, &boxes)
+}
+
+/// A chart of edition 2 and 204 boxes: decisions between two copies, by one comparison, in a circle.
+pub fn forks(comparison: u8) -> Vec<u8> {
+    let mut boxes = Vec::new();
+    for p in (0..204u8).step_by(3) {
+        let next = (p + 3) % 204;
+        boxes.extend([decide(comparison, 0, 16, p + 1, p + 2), assign(31, 1, 0, 0, next), assign(31, 1, 1, 0, next)]);
+    }
+    file(2, 2, 0, &boxes)
+}
+
 /// A chart of edition 1 and 16 inputs that adds them all.
 pub fn sixteen() -> Vec<u8> {
     let mut boxes: Vec<Box10> = (0..16u8).map(|j| assign(31, 2, 31, j, j + 1)).collect();
@@ -125,15 +151,26 @@ const OPERATIONS: [u8; 12] = [0, 1, 2, 3, 4, 5, 6, 7, 8, 9, 10, 11];
 /// Those that are the same in both editions.
 const SHARED: [u8; 9] = [0, 1, 4, 5, 6, 7, 8, 9, 10];
 
-/// Box p, followed by the next one or by any; an assignment has one of the given operations.
-fn random_box(random: &mut Random, edition: u8, k: u8, n: u8, p: u8, operations: &[u8]) -> Box10 {
+fn random_decision(random: &mut Random, k: u8, next: u8, other: u8) -> Box10 {
+    decide(random.below(3) as u8, operand(random, k), operand(random, k), next, other)
+}
+
+fn random_choice(random: &mut Random, k: u8, target: u8, next: u8) -> Box10 {
+    let comparison = random.below(3) as u8;
+    choose(target, comparison, operand(random, k), operand(random, k), next, operand(random, k), operand(random, k))
+}
+
+/// Box p, followed by the next one or by any; a shared one is the same in both editions.
+fn random_box(random: &mut Random, edition: u8, k: u8, n: u8, p: u8, shared: bool) -> Box10 {
     let mut next = || if random.one_in(2) { random.below(u32::from(n)) as u8 } else { (p + 1) % n };
     let (a, b) = (next(), next());
-    match random.below(10) {
+    let target = variable(random);
+    match random.below(12) {
         0 => HALT,
-        1..=3 => decide(random.below(3) as u8, operand(random, k), operand(random, k), a, b),
+        1..=3 => random_decision(random, k, a, b),
+        4..=5 if edition == 2 && !shared => random_choice(random, k, target, a),
         _ => {
-            let target = variable(random);
+            let operations = if shared { &SHARED[..] } else { &OPERATIONS[..] };
             let op = operations[random.below(operations.len() as u32) as usize];
             match reads(edition, op) {
                 (false, _) => constant(target, random.number(), a),
@@ -144,7 +181,35 @@ fn random_box(random: &mut Random, edition: u8, k: u8, n: u8, p: u8, operations:
     }
 }
 
-/// A chart that load accepts, of either edition. In one of three every assignment has an operation that is the same in both; in one of six those below some box do.
+/// A decision at p between copies at q and r with one target and one next box, which a rewriting replaces; or, often, something near to that, which may
+/// involve box s. With `kind_4` there may be a box of that kind.
+fn put_fork(random: &mut Random, k: u8, kind_4: bool, boxes: &mut [Box10], [p, q, r, s]: [u8; 4]) {
+    let n = boxes.len() as u32;
+    let [at_p, at_q, at_r, at_s] = [p, q, r, s].map(usize::from);
+    let (target, next) = (variable(random), if random.one_in(2) { s } else { random.below(n) as u8 });
+    let (yes, no) = if random.one_in(2) { (q, r) } else { (r, q) };
+    boxes[at_q] = assign(target, 1, operand(random, k), 0, next);
+    boxes[at_r] = assign(target, 1, operand(random, k), 0, next);
+    boxes[at_p] = random_decision(random, k, yes, no);
+    match random.below(16) {
+        // The next boxes are one.
+        0 => boxes[at_p][6] = yes,
+        // One next box has another target, another next box, another operation or another kind.
+        1 => boxes[at_q][1] = variable(random),
+        2 => boxes[at_q][5] = random.below(n) as u8,
+        3 => boxes[at_q][2] = 9 + random.below(2) as u8,
+        4 => boxes[at_q] = constant(target, random.number(), next),
+        5 if kind_4 => boxes[at_q] = random_choice(random, k, target, next),
+        // Another decision's next boxes are this one, which is replaced, and a copy, or both copies.
+        6 => boxes[at_s] = random_decision(random, k, p, q),
+        7 => boxes[at_s] = random_decision(random, k, no, yes),
+        8..=9 => boxes[at_s] = HALT,
+        _ => {}
+    }
+}
+
+/// A chart that load accepts, of either edition. In one of three every box is the same in both; in one of six those below some box are. One of two has many
+/// decisions between copies.
 pub fn random_chart(random: &mut Random) -> Vec<u8> {
     let edition = 1 + random.below(2) as u8;
     let k = random.below(17) as u8;
@@ -154,9 +219,21 @@ pub fn random_chart(random: &mut Random) -> Vec<u8> {
         2 => random.below(u32::from(n)) as u8,
         _ => 0,
     };
-    let operations = |p| if p < shared { &SHARED[..] } else { &OPERATIONS[..] };
-    let boxes: Vec<Box10> = (0..n).map(|p| random_box(random, edition, k, n, p, operations(p))).collect();
-    file(edition, k, random.below(u32::from(n)) as u8, &boxes)
+    let mut boxes: Vec<Box10> = (0..n).map(|p| random_box(random, edition, k, n, p, p < shared)).collect();
+    let mut first = random.below(u32::from(n)) as u8;
+    if n >= 3 && random.one_in(2) {
+        let mut places: Vec<u8> = (0..n).collect();
+        random.shuffle(&mut places);
+        if random.one_in(2) {
+            first = places[0];
+        }
+        for i in (0..places.len()).step_by(4) {
+            if !random.one_in(4) {
+                put_fork(random, k, edition == 2 && shared == 0, &mut boxes, [0, 1, 2, 3].map(|j| places[(i + j) % places.len()]));
+            }
+        }
+    }
+    file(edition, k, first, &boxes)
 }
 
 /// Exchanges two box blocks, their checks with them, where the file has two; whether it has.

@@ -5,6 +5,7 @@ extern "C" {
     fn flow_loads(files: &[u8], rounds: u32) -> u64;
     fn flow_writes(file: &[u8], buf: &mut [u8], rounds: u32) -> u64;
     fn flow_converts(file: &[u8], buf: &mut [u8], rounds: u32) -> u64;
+    fn flow_rewrites(files: &[u8], buf: &mut [u8], rounds: u32) -> u64;
     fn flow_shows(file: &[u8], rounds: u32) -> u64;
     fn flow_script(files: &[u8], words: &[u32], told: &mut [u32], buf: &mut [u8]) -> usize;
 }
@@ -23,6 +24,10 @@ pub fn writes(file: &[u8], buf: &mut [u8], rounds: u32) -> u64 {
 
 pub fn converts(file: &[u8], buf: &mut [u8], rounds: u32) -> u64 {
     unsafe { flow_converts(file, buf, rounds) }
+}
+
+pub fn rewrites(files: &[u8], buf: &mut [u8], rounds: u32) -> u64 {
+    unsafe { flow_rewrites(files, buf, rounds) }
 }
 
 pub fn shows(file: &[u8], rounds: u32) -> u64 {

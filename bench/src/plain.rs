@@ -39,6 +39,7 @@ pub struct Header {
 }
 
 /// A mark is a set of withheld inputs, 0 where there is none; `named` is the set of the notice told, 0 without one.
+#[derive(Clone)]
 pub struct Runner {
     table: [u8; 2040],
     vars: [u32; 32],
@@ -103,6 +104,13 @@ fn is_box(b: &[u8], header: Header) -> bool {
         }
         2 => b[1] == 0 && b[2] <= 2 && readable(b[3], k) && readable(b[4], k) && b[5] < n && b[6] < n && b[7..10] == [0; 3],
         3 => b[1..10] == [0; 9],
+        4 if edition == 2 => {
+            (16..32).contains(&b[1])
+                && b[2] <= 2
+                && [b[3], b[4], b[6], b[7]].iter().all(|v| readable(*v, k))
+                && b[5] < n
+                && b[8..10] == [0; 2]
+        }
         _ => false,
     }
 }
@@ -158,9 +166,12 @@ pub fn show_box(file: &[u8], number: u32) -> &[u8] {
     }
 }
 
-/// Whether a box does the same in both editions, which have the same kinds of boxes.
+/// Whether both editions have such a box, and it does the same in both.
 fn is_shared(b: &[u8]) -> bool {
-    b[0] != 1 || ![2, 3, 11].contains(&b[2])
+    match b[0] {
+        1 => ![2, 3, 11].contains(&b[2]),
+        kind => kind != 4,
+    }
 }
 
 /// The other edition's file, with the same boxes, at the buffer's front.
@@ -169,7 +180,7 @@ pub fn convert(file: &[u8], buf: &mut [u8]) -> Told {
         Ok(header) => header,
         Err((number, detail)) => return Told::Refused(number, detail),
     };
-    // Places past the last box are zeros, as `check` has seen, so no assignments.
+    // Places past the last box are zeros, as `check` has seen, so of neither kind.
     let mut places = file[512..].chunks_exact(512).flat_map(|block| block[..510].chunks_exact(10));
     if let Some(p) = places.position(|b| !is_shared(b)) {
         return Told::Refused(14, p as u32);
@@ -184,6 +195,25 @@ pub fn convert(file: &[u8], buf: &mut [u8]) -> Told {
         seal(edition, j, block);
     }
     Told::Written(file.len())
+}
+
+/// Whether a comparison holds.
+fn holds(comparison: u8, x: u32, y: u32) -> bool {
+    match comparison {
+        0 => x == y,
+        1 => x < y,
+        _ => x <= y,
+    }
+}
+
+/// The kind 4 box that a decision becomes: its two next boxes differ, and are copies with one target and one next box.
+fn choice(boxes: &[[u8; 10]], b: &[u8; 10]) -> Option<[u8; 10]> {
+    if b[0] != 2 || b[5] == b[6] {
+        return None;
+    }
+    let (yes, no) = (&boxes[usize::from(b[5])], &boxes[usize::from(b[6])]);
+    let copies = yes[0] == 1 && yes[2] == 1 && no[0] == 1 && no[2] == 1;
+    (copies && yes[1] == no[1] && yes[5] == no[5]).then_some([4, yes[1], b[2], b[3], b[4], yes[5], yes[3], no[3], 0, 0])
 }
 
 impl Runner {
@@ -273,6 +303,13 @@ impl Runner {
         Told::Done
     }
 
+    /// Stores to a target a value and the mark that goes with the marks read, and goes to the next box.
+    fn store(&mut self, t: usize, value: u32, read: u16, next: u8) {
+        self.marks[t] = read & self.take | self.marks[t] & self.keep;
+        self.vars[t] = value;
+        self.at = next;
+    }
+
     fn assign(&mut self, b: [u8; 10]) {
         let edition = self.header.edition;
         let (t, i, j) = (usize::from(b[1] % 32), usize::from(b[3] % 32), usize::from(b[4] % 32));
@@ -299,9 +336,15 @@ impl Runner {
             (_, false) => self.marks[i],
             _ => self.marks[i] | self.marks[j],
         };
-        self.marks[t] = read & self.take | self.marks[t] & self.keep;
-        self.vars[t] = value;
-        self.at = b[5];
+        self.store(t, value, read, b[5]);
+    }
+
+    /// A kind 4 box, which reads all four variables whichever it copies.
+    fn choose(&mut self, b: [u8; 10]) {
+        let [t, i, j, yes, no] = [b[1], b[3], b[4], b[6], b[7]].map(|v| usize::from(v % 32));
+        let value = if holds(b[2], self.vars[i], self.vars[j]) { self.vars[yes] } else { self.vars[no] };
+        let read = self.marks[i] | self.marks[j] | self.marks[yes] | self.marks[no];
+        self.store(t, value, read, b[5]);
     }
 
     /// Runs the box at hand; the ending, if it is one.
@@ -313,6 +356,7 @@ impl Runner {
         };
         match b[0] {
             1 => self.assign(b),
+            4 => self.choose(b),
             2 => {
                 let (i, j) = (usize::from(b[3] % 32), usize::from(b[4] % 32));
                 let read = self.marks[i] | self.marks[j];
@@ -322,13 +366,7 @@ impl Runner {
                 if self.mode == 2 {
                     self.counter |= read;
                 }
-                let (x, y) = (self.vars[i], self.vars[j]);
-                let holds = match b[2] {
-                    0 => x == y,
-                    1 => x < y,
-                    _ => x <= y,
-                };
-                self.at = if holds { b[5] } else { b[6] };
+                self.at = if holds(b[2], self.vars[i], self.vars[j]) { b[5] } else { b[6] };
             }
             _ => {
                 let output = self.marks[31];
@@ -413,6 +451,27 @@ impl Runner {
             seal(edition, j as u16, block);
         }
         Told::Written(length)
+    }
+
+    /// Makes a kind 4 box of each decision between two copies. Only decisions change and only assignments are looked at, so all are judged on the old chart.
+    pub fn rewrite(&mut self) -> Told {
+        if self.header.boxes == 0 {
+            return Told::Refused(21, 0);
+        }
+        if self.state == State::Running {
+            return Told::Refused(22, 0);
+        }
+        if self.header.edition == 1 {
+            return Told::Refused(15, 0);
+        }
+        let (boxes, _) = self.table.as_chunks_mut::<10>();
+        for p in 0..usize::from(self.header.boxes) {
+            if let Some(put) = choice(boxes, &boxes[p]) {
+                boxes[p] = put;
+            }
+        }
+        self.rest(State::Resting, 0, 0);
+        Told::Done
     }
 }
 

@@ -22,6 +22,12 @@ impl Random {
         self.below(n) == 0
     }
 
+    pub fn shuffle<T>(&mut self, items: &mut [T]) {
+        for i in (1..items.len()).rev() {
+            items.swap(i, self.below(i as u32 + 1) as usize);
+        }
+    }
+
     /// A number of 32 bits, often at an edge.
     pub fn number(&mut self) -> u32 {
         match self.below(6) {

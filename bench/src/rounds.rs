@@ -85,6 +85,25 @@ pub fn converts(file: &[u8], buf: &mut [u8], rounds: u32) -> u64 {
     sum
 }
 
+/// Rewritings of two charts in turn, whose files are each a half of the bytes. The last chart rewritten is written back, and the first byte of the check of
+/// its first boxes is folded too.
+pub fn rewrites(files: &[u8], buf: &mut [u8], rounds: u32) -> u64 {
+    let (one, other) = files.split_at(files.len() / 2);
+    let charts = [one, other].map(|file| {
+        let mut runner = plain::Runner::new();
+        runner.load(file);
+        runner
+    });
+    let mut runner = plain::Runner::new();
+    let mut sum = 0;
+    for i in 0..rounds {
+        runner = charts[i as usize % 2].clone();
+        sum = fold_told(sum, runner.rewrite());
+    }
+    sum = fold_told(sum, runner.write_back(buf));
+    fold(sum, take_byte(buf, 1022))
+}
+
 /// Boxes shown, by numbers below 256; of each, the length and the byte at 5 are folded.
 pub fn shows(file: &[u8], rounds: u32) -> u64 {
     let mut sum = 0;

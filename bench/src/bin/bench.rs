@@ -73,14 +73,33 @@ fn files(edition: u8, name: String, count: u32, boxes: usize) -> Vec<Row> {
     ]
 }
 
-/// All charts have two inputs, and edition 1 where a row names none. In long runs input 0 is withheld: its mark goes through the assignments that read it
-/// and reaches no decision, so that the run goes on to the limit. Health checks allow both inputs and end with a value.
+/// Rewritings of charts of 204 boxes, a third of which are replaced.
+fn rewrites() -> Row {
+    let both = [charts::forks(0), charts::forks(1)].concat();
+    let same = both.clone();
+    Row {
+        name: "rewrite 204 boxes".to_string(),
+        unit: "call",
+        units: 1.0,
+        rounds: 1000,
+        ours: Box::new(move |n| exported::rewrites(&both, &mut [0; 2560], n)),
+        plain: Box::new(move |n| rounds::rewrites(&same, &mut [0; 2560], n)),
+        by_value: None,
+    }
+}
+
+/// All charts have two inputs, and edition 1 where a row names none, but for the rewriting, which edition 2 alone has. In long runs input 0 is withheld: its
+/// mark goes through the assignments that read it and reaches no decision, so that the run goes on to the limit. Health checks allow both inputs and end
+/// with a value.
 fn rows() -> Vec<Row> {
     let mut rows = Vec::new();
     let editions = [(1, ""), (2, ", edition 2")];
     for (edition, named) in editions {
-        let charts =
-            [("counting", charts::counting(edition)), ("operations", charts::operations(edition)), ("decisions", charts::decisions(edition))];
+        let mut charts =
+            vec![("counting", charts::counting(edition)), ("operations", charts::operations(edition)), ("decisions", charts::decisions(edition))];
+        if edition == 2 {
+            charts.push(("choices", charts::choices()));
+        }
         for (name, chart) in charts {
             for (mode, mode_name) in ["bare", "surveillance", "high-water"].iter().enumerate() {
                 let name = format!("box: {name}{named}, {mode_name}");
@@ -95,6 +114,7 @@ fn rows() -> Vec<Row> {
         rows.extend(files(edition, format!("2 blocks{named}"), 2000, 51));
         rows.extend(files(edition, format!("5 blocks{named}"), 1000, 204));
     }
+    rows.push(rewrites());
     for steps in [10, 100, 1000, 10_000, 65_535] {
         rows.push(checks(format!("growth: {steps} boxes"), "box", f64::from(steps), 600_000 / steps, charts::counting(1), [1, 2, steps]));
     }

@@ -59,7 +59,7 @@ fn amount(random: &mut Random, limit: u32) -> u32 {
     }
 }
 
-/// How many bytes of the buffer to lend for a file's conversion: of any number, and often as many as the file has, or one fewer.
+/// How many bytes of the buffer to lend for a file: of any number, and often as many as the file has, or one fewer.
 fn room(random: &mut Random, length: u32) -> u32 {
     match random.below(6) {
         0 => random.below(2600),
@@ -86,7 +86,7 @@ impl Script {
         self.files.extend(file);
         self.words.push(call(&[0, from, length]));
         for _ in 0..random.below(40) {
-            self.words.push(match random.below(13) {
+            self.words.push(match random.below(15) {
                 0..=2 => {
                     let begin = begin(random, k);
                     *limit = effective(begin[3]);
@@ -95,9 +95,10 @@ impl Script {
                 3..=6 => call(&[2, amount(random, *limit)]),
                 7..=8 => call(&[3]),
                 9 => call(&[4]),
-                10 => call(&[5, random.below(2600)]),
+                10 => call(&[5, room(random, length)]),
                 11 => call(&[6, from, length, if random.one_in(2) { random.below(12) } else { random.below(256) }]),
-                _ => call(&[7, from, length, room(random, length)]),
+                12 => call(&[7, from, length, room(random, length)]),
+                _ => call(&[8]),
             });
         }
     }
@@ -145,15 +146,23 @@ fn plain(runner: &mut Runner, files: &[u8], words: &[u32; STRIDE], buf: &mut [u8
             let part = show_box(file(), words[3]);
             (shown(part), sum_of(part))
         }
-        _ => {
+        7 => {
             let told = convert(file(), &mut buf[..words[3] as usize]);
             if let Told::Written(length) = told {
                 assert!(conversion(&buf[..length]).as_deref() == Some(file()), "converting back gives another file");
             }
             (numbers(told), sum_of(buf))
         }
+        _ => (numbers(runner.rewrite()), 0),
     };
     [told[0], told[1], told[2], sum]
+}
+
+/// How many boxes of the chart held are of kind 4.
+fn kind_4_boxes(runner: &Runner) -> u64 {
+    let mut file = [0; 2560];
+    runner.write_back(&mut file);
+    (0..204).filter(|p| file[512 * (1 + p / 51) + 10 * (p % 51)] == 4).count() as u64
 }
 
 fn main() {
@@ -169,6 +178,8 @@ fn main() {
     let mut exchanged = [[0u64; 2]; 3];
     let mut conversions = [[0u64; 2]; 3];
     let mut converted = 0u64;
+    let mut rewritings = [0u64; 2];
+    let mut replaced = 0u64;
     while Instant::now() < end {
         let script = script(&mut random);
         let flat: Vec<u32> = script.words.iter().flatten().copied().collect();
@@ -179,6 +190,7 @@ fn main() {
         assert_eq!(made, script.words.len());
         let mut runner = Runner::new();
         for (i, (words, told)) in script.words.iter().zip(told.chunks(4)).enumerate() {
+            let before = if words[0] == 8 { kind_4_boxes(&runner) } else { 0 };
             let expected = plain(&mut runner, &script.files, words, &mut theirs);
             counts[expected[0] as usize] += 1;
             let name = kinds::NAMES[expected[0] as usize];
@@ -199,6 +211,11 @@ fn main() {
                 (0, "chart", _) if script.converted.contains(&words[1]) => converted += 1,
                 (7, "written", _) => conversions[edition()][0] += 1,
                 (7, "refused", 14) => conversions[edition()][1] += 1,
+                (8, "done", _) => {
+                    rewritings[0] += 1;
+                    replaced += kind_4_boxes(&runner) - before;
+                }
+                (8, "refused", 15) => rewritings[1] += 1,
                 _ => {}
             }
             if told != expected {
@@ -230,4 +247,6 @@ fn main() {
         println!("conversions from edition {edition}: {made} made, {refused} refused by 14");
     }
     println!("loads of converted charts: {converted}");
+    let [made, refused] = rewritings;
+    println!("rewritings: {made} made, in which {replaced} decisions were replaced, {refused} refused by 15");
 }

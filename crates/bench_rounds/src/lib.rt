@@ -87,6 +87,35 @@ pub extern "C" fn flow_converts(file: &[u8], buf: &mut [u8], rounds: u32) -> u64
     sum
 }
 
+// One of two runners.
+fn either(first: bool, one: Runner, other: Runner) -> Runner {
+    if first { one } else { other }
+}
+
+// Rewritings of two charts in turn, whose files are each a half of the lent bytes. The last chart rewritten is written back, and the first byte of the check of its
+// first boxes is folded too.
+#[no_mangle]
+pub extern "C" fn flow_rewrites(files: &[u8], buf: &mut [u8], rounds: u32) -> u64 {
+    let half = files.len() / 2;
+    let end = half + half;
+    let one = loaded(&files[..half]);
+    let other = loaded(&files[half..end]);
+    let mut runner = Runner::new();
+    let mut sum: u64 = 0;
+    let mut i: u32 = 0;
+    while i < rounds {
+        let first = i % 2 == 0;
+        i += 1;
+        let chart = either(first, one, other);
+        let rewritten = chart.rewrite();
+        let told = rewritten.told;
+        runner = rewritten.runner;
+        sum = fold_told(sum, told::of_verdict(told));
+    }
+    sum = fold_told(sum, told::of_written(runner.write_back(buf)));
+    fold_byte(sum, buf, 1022)
+}
+
 // Boxes shown, by numbers below 256; of each, the length and the byte at 5 are folded.
 #[no_mangle]
 pub extern "C" fn flow_shows(file: &[u8], rounds: u32) -> u64 {

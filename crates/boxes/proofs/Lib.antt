@@ -2,3 +2,4 @@
 pub mod Bools
 pub mod Zeros
 pub mod Formed
+pub mod Places

@@ -18,9 +18,9 @@ readsLeft op = leb 1 op
 abbrev pub readsRight : (edition op : ℕ) → Bool
 readsRight edition op = (leb 2 op && leb op 8) || (eqb op 11 && eqb edition 2)
 
--- The kinds that an edition has: "Assignment: 0 kind 1", "Decision: 0 kind 2", "Halt: 0 kind 3", in either.
+-- The kinds that an edition has: "Assignment: 0 kind 1", "Decision: 0 kind 2", "Halt: 0 kind 3", in either. 02, g: "Edition 2 gains kind 4".
 abbrev pub hasKind : (edition kind : ℕ) → Bool
-hasKind edition kind = leb 1 kind && leb kind 3
+hasKind edition kind = (leb 1 kind && leb kind 3) || (eqb kind 4 && eqb edition 2)
 
 -- An operand that the box reads, or does not: "An unused field is 0, and that 0 isn't a read of input 0."
 unfoldable pub operandRule : ℕ → Bool → ℕ → Bool
@@ -56,6 +56,22 @@ decisionRule k n b =
 unfoldable pub haltRule : List ℕ → Bool
 haltRule b = eqb (at b 0) 3 && allZero (part b 1 9)
 
--- Ten bytes that break no rule.
+-- 02, g: "kind 4: byte 1 target, 2 comparison, 3 and 4 the variables compared, 5 next, 6 the variable copied if true, 7 if false, 8 and 9 zero. It reads all four
+-- variables whichever is copied".
+unfoldable pub choiceRule : (k n : ℕ) → List ℕ → Bool
+choiceRule k n b =
+    eqb (at b 0) 4
+    && leb 16 (at b 1)
+    && leb (at b 1) 31
+    && leb (at b 2) 2
+    && readable k (at b 3)
+    && readable k (at b 4)
+    && ltb (at b 5) n
+    && readable k (at b 6)
+    && readable k (at b 7)
+    && allZero (part b 8 2)
+
+-- Ten bytes that break no rule, of a kind that the edition has.
 unfoldable pub wellFormed : (edition k n : ℕ) → List ℕ → Bool
-wellFormed edition k n b = eqb (length b) 10 && (assignmentRule edition k n b || decisionRule k n b || haltRule b)
+wellFormed edition k n b =
+    eqb (length b) 10 && hasKind edition (at b 0) && (assignmentRule edition k n b || decisionRule k n b || haltRule b || choiceRule k n b)

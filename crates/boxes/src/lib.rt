@@ -2,7 +2,7 @@
 ghost use mathlib.Core.Path.{_≡_};
 ghost use lib.ListN.{length};
 ghost use Rattle.boxes.specs.Bytes.{allZero};
-ghost use Rattle.boxes.specs.Box.{readable, readsRight, hasKind, operandRule, assignmentRule, decisionRule, haltRule, wellFormed};
+ghost use Rattle.boxes.specs.Box.{readable, readsRight, hasKind, operandRule, assignmentRule, decisionRule, haltRule, choiceRule, wellFormed};
 
 // Every byte is 0.
 pub fn all_zero(bytes: &[u8]) -> bool
@@ -34,7 +34,7 @@ pub fn reads_right(edition: u8, op: u8) -> bool
 pub fn has_kind(edition: u8, kind: u8) -> bool
     ensures { λ r. ⌜ r ≡ hasKind edition kind ⌝ }
 {
-    (1 <= kind) & (kind <= 3)
+    ((1 <= kind) & (kind <= 3)) | ((kind == 4) & (edition == 2))
 }
 
 fn operand_holds(k: u8, reads: bool, v: u8) -> bool
@@ -82,6 +82,23 @@ fn halt_holds(b: &[u8]) -> bool
     (b[0] == 3) & all_zero(&b[1..10])
 }
 
+fn choice_holds(k: u8, n: u8, b: &[u8]) -> bool
+    requires { ⌜ length (now b) ≡ 10 ⌝ }
+    ensures { λ r. ⌜ r ≡ choiceRule k n (now (b .entry)) ⌝ }
+{
+    let target = b[1];
+    (b[0] == 4)
+        & (16 <= target)
+        & (target <= 31)
+        & (b[2] <= 2)
+        & can_read(k, b[3])
+        & can_read(k, b[4])
+        & (b[5] < n)
+        & can_read(k, b[6])
+        & can_read(k, b[7])
+        & all_zero(&b[8..10])
+}
+
 // Ten bytes that break no rule of a box.
 pub fn well_formed(edition: u8, k: u8, n: u8, b: &[u8]) -> bool
     ensures { λ r. ⌜ r ≡ wellFormed edition k n (now (b .entry)) ⌝ }
@@ -93,6 +110,7 @@ pub fn well_formed(edition: u8, k: u8, n: u8, b: &[u8]) -> bool
     match kind {
         1 => assignment_holds(edition, k, n, b),
         2 => decision_holds(k, n, b),
-        _ => halt_holds(b),
+        3 => halt_holds(b),
+        _ => has_kind(edition, kind) & choice_holds(k, n, b),
     }
 }

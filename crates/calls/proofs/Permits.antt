@@ -1,4 +1,4 @@
--- What an accepted begin, advance and write back say of their arguments: each of their rules has been kept. Assumes nothing.
+-- What an accepted begin, advance, write back and rewriting say of their arguments: each of their rules has been kept. Assumes nothing.
 use Prim.Native.Nat.{ℕ, _/_, _^_, _≤_}
 use mathlib.Core.Path.{_≡_, refl}
 use mathlib.Core.List.{List}
@@ -11,7 +11,7 @@ use Rattle.format.specs.File.{inRange}
 use Rattle.format.specs.declared.Header.{Header}
 use Rattle.format.specs.declared.Refusal.{Refusal}
 use Rattle.chart.specs.WriteBack.{fileLength, hasRoom}
-use Rattle.calls.specs.Calls.{begin, advance, writeBack, Standing, refuseIf, check}
+use Rattle.calls.specs.Calls.{begin, advance, writeBack, rewrite, Standing, refuseIf, check}
 use Rattle.calls.specs.declared.Verdict.{Verdict}
 use Rattle.calls.specs.declared.Verdict.the-variants.{Done, Refused}
 
@@ -65,3 +65,12 @@ write-back-fits buffer s e =
     let one = passed (not (inRange (s .header))) 21 e in
     let two = passed (not (hasRoom (s .header) (length buffer))) 12 (one .1) in
     (not-false _ (one .0), leb-true _ _ (not-false _ (two .0)))
+
+-- An accepted rewriting is of a chart of edition 2, and of no run under way.
+pub rewrites-second : (s : Standing) → check rewrite s ≡ Done → (inRange (s .header) ≡ true) × (s .running ≡ false) × (s .header .edition ≡ 2)
+unfolding check
+rewrites-second s e =
+    let one = passed (not (inRange (s .header))) 21 e in
+    let two = passed (s .running) 22 (one .1) in
+    let three = passed (not (eqb (s .header .edition) 2)) 15 (two .1) in
+    (not-false _ (one .0), two .0, eqb-true _ _ (not-false _ (three .0)))

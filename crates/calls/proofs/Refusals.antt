@@ -1,4 +1,4 @@
--- What begin, advance and write back are told at each of their rules, from the facts that lead there. Assumes nothing.
+-- What begin, advance, write back and the rewriter are told at each of their rules, from the facts that lead there. Assumes nothing.
 use Prim.Native.Nat.{ℕ, _/_, _^_, _≤_, _<_}
 use mathlib.Core.Path.{_≡_}
 use mathlib.Core.List.{List}
@@ -8,7 +8,7 @@ use borrow.Author.Tests.{lt-ltb, le-ltb, lt-leb, le-leb, eq-eqb, ne-eqb}
 use Rattle.format.specs.File.{inRange}
 use Rattle.format.specs.declared.Header.{Header}
 use Rattle.chart.specs.WriteBack.{fileLength}
-use Rattle.calls.specs.Calls.{begin, advance, writeBack, Standing, refuse, check}
+use Rattle.calls.specs.Calls.{begin, advance, writeBack, rewrite, Standing, refuse, check}
 use Rattle.calls.specs.declared.Verdict.{Verdict}
 use Rattle.calls.specs.declared.Verdict.the-variants.{Done}
 
@@ -96,3 +96,26 @@ module _ (h : Header) (room : ℕ) where
   pub tells-room : inRange h ≡ true → fileLength h ≤ room → WriteBackIs h room Done
   unfolding check
   tells-room held fits buffer s l eh = rw (eh, held, l, le-leb (fileLength h) room fits)
+
+-- The verdict on a rewriting, by the header and whether a run is under way.
+abbrev pub RewriteIs : Header → Bool → Verdict → Type 0
+RewriteIs h running v = (s : Standing) → s .header ≡ h → s .running ≡ running → v ≡ check rewrite s
+
+module _ (h : Header) (running : Bool) where
+  pub tells-none : inRange h ≡ false → RewriteIs h running (refuse 21)
+  unfolding check
+  tells-none e s eh er = rw (eh, e)
+
+  module _ (held : inRange h ≡ true) where
+    pub tells-busy : running ≡ true → RewriteIs h running (refuse 22)
+    unfolding check
+    tells-busy e s eh er = rw (eh, er, held, e)
+
+    module _ (rests : running ≡ false) where
+      pub tells-first : (h .edition ≡ 2 → ⊥) → RewriteIs h running (refuse 15)
+      unfolding check
+      tells-first n s eh er = rw (eh, er, held, rests, ne-eqb (h .edition) 2 n)
+
+      pub tells-second : h .edition ≡ 2 → RewriteIs h running Done
+      unfolding check
+      tells-second e s eh er = rw (eh, er, held, rests, eq-eqb (h .edition) 2 e)

@@ -1,4 +1,4 @@
--- The six calls, and what refuses each of them: by one definition, with the refusals in document 01's order.
+-- The seven calls, and what refuses each of them: by one definition, with the refusals in the documents' order.
 use Prim.Native.Nat.{ℕ, _/_, _^_}
 use mathlib.Core.List.{List}
 use mathlib.Core.Bool.{Bool, cond, not}
@@ -12,7 +12,7 @@ use Rattle.chart.specs.WriteBack.{hasRoom}
 use Rattle.calls.specs.declared.Verdict.{Verdict}
 use Rattle.calls.specs.declared.Verdict.the-variants.{Done, Refused}
 
--- "The calls are all that take the runner: load, begin, advance, answer, abandon and write back."
+-- "The calls are all that take the runner: load, begin, advance, answer, abandon and write back." 02, g: "the rewriter joins the calls".
 pub data Call : Type 0 where
   load : (file : List ℕ) → Call
   begin : (mode : ℕ) (inputs : List ℕ) (allowed limit : ℕ) → Call
@@ -20,6 +20,7 @@ pub data Call : Type 0 where
   answer : Call
   abandon : Call
   writeBack : (buffer : List ℕ) → Call
+  rewrite : Call
 
 -- What the refusals look at of a runner: the header of the chart held, whether a run is under way, the least amount by which it may be advanced, and
 -- whether there is an ended run.
@@ -36,6 +37,10 @@ refuse number = Refused (refusal number 0)
 abbrev pub refuseIf : Bool → ℕ → Verdict → Verdict
 refuseIf broken number otherwise = cond broken (refuse number) otherwise
 
+-- What a begin and a rewriting ask first: a chart, and no run under way.
+abbrev pub atRest : Standing → Verdict → Verdict
+atRest s otherwise = refuseIf (not (inRange (s .header))) 21 (refuseIf (s .running) 22 otherwise)
+
 -- The verdict of load's input checks 1 to 6.
 unfoldable pub fileVerdict : Checked → Verdict
 fileVerdict (checked.Accepted h) = Done
@@ -45,18 +50,19 @@ fileVerdict (checked.Refused x) = Refused x
 -- "7: mode above 2"; "8: the allowed set has a bit at k or above"; "9: the inputs lent aren't k in number"; "10: limit above 65,535"; "12: the buffer
 -- for writing back is shorter than the file". "21: no chart held (begin, write back)"; "22: a run is under way (load, begin)"; "23: no run is under
 -- way (advance, abandon)"; "24: no ended run (answer)". Write back is "Allowed during a run". 02, b: "It refuses, with 13 and after 23, an advance by less
--- than the run's limit in high-water mode."
+-- than the run's limit in high-water mode." 02, g: the rewriter "refuses, with 21, when no chart is held, with 22 during a run, and only then with 15 when the chart is edition
+-- 1"; an edition that is not 2 is as 1.
 unfoldable pub check : Call → Standing → Verdict
 check (load file) s = refuseIf (s .running) 22 (fileVerdict (checkFile file))
 check (begin mode inputs allowed limit) s =
-    refuseIf (not (inRange (s .header))) 21
-    (refuseIf (s .running) 22
+    atRest s
     (refuseIf (ltb 2 mode) 7
     (refuseIf (not (eqb (length inputs) (s .header .inputs))) 9
     (refuseIf (not (eqb (allowed / 2 ^ s .header .inputs) 0)) 8
     (refuseIf (ltb 65535 limit) 10
-    Done)))))
+    Done))))
 check (advance m) s = refuseIf (not (s .running)) 23 (refuseIf (ltb m (s .least)) 13 Done)
 check answer s = refuseIf (not (s .ended)) 24 Done
 check abandon s = refuseIf (not (s .running)) 23 Done
 check (writeBack buffer) s = refuseIf (not (inRange (s .header))) 21 (refuseIf (not (hasRoom (s .header) (length buffer))) 12 Done)
+check rewrite s = atRest s (refuseIf (not (eqb (s .header .edition) 2)) 15 Done)

@@ -1,4 +1,4 @@
-// What refuses a begin, an advance and a write back, in order. The refusals of the other calls are one test each, and load's file has its own checks.
+// What refuses a begin, an advance, a write back and a rewriting, in order. The refusals of the other calls are one test each, and load's file has its own checks.
 use format::Header;
 use format::Refusal;
 ghost use mathlib.Core.Path.{_≡_};
@@ -6,7 +6,7 @@ ghost use mathlib.Core.List.{List};
 ghost use Prim.Native.Nat.{ℕ};
 ghost use lib.ListN.{length};
 ghost use Rattle.format.specs.File.{refusal};
-ghost use Rattle.calls.specs.Calls.{begin, advance, writeBack, Standing, check};
+ghost use Rattle.calls.specs.Calls.{begin, advance, writeBack, rewrite, Standing, check};
 
 // Done, or refused.
 pub enum Verdict {
@@ -76,6 +76,22 @@ pub fn check_write_back(header: Header, room: usize) -> Verdict
     }
     if room < chart::file_length(header) {
         return refuse(12);
+    }
+    Verdict::Done
+}
+
+// The verdict on a rewriting of the chart held.
+pub fn check_rewrite(header: Header, busy: bool) -> Verdict
+    ensures { λ r. ⌜ ((s : Standing) → s .header ≡ header → s .running ≡ busy → r ≡ check rewrite s) ⌝ }
+{
+    if !format::in_range(header) {
+        return refuse(21);
+    }
+    if busy {
+        return refuse(22);
+    }
+    if header.edition != 2 {
+        return refuse(15);
     }
     Verdict::Done
 }

@@ -1,11 +1,14 @@
 -- The claims at their exact bounds, each from the theorem of its claim and nothing else: ranges say that a number is not the next one, kind by
 -- kind of box. Assumes nothing.
 use Prim.Native.Nat.{ℕ}
+use mathlib.Core.Path.{_≡_}
 use mathlib.Core.List.{List}
+use mathlib.Core.Logic.{_≢_, ⊎-elim}
 use native.Mathlib.Omega.{arith}
+use Rattle.boxes.specs.Bytes.{at}
 use Rattle.format.specs.declared.Header.{Header}
 use Rattle.format.proofs.Accepted.{accepted}
-use Rattle.chart_claims.specs.Claims.{HeaderInRange, BoxInRange, assignment, decision, halt}
+use Rattle.chart_claims.specs.Claims.{HeaderInRange, BoxInRange, assignment, decision, halt, choice}
 use Rattle.chart_claims.specs.Bounds.{ExactRoom, LastBoxShown, EndsExchanged, HeaderBounds, BoxBounds, LoadsWithinBounds}
 use Rattle.chart_claims.proofs.RoundTrip.{reproduces-file}
 use Rattle.chart_claims.proofs.Exchanged.{exchange-refused}
@@ -14,10 +17,35 @@ use Rattle.chart_claims.proofs.Rules.{obeys-rules, shows-the-box, stays
 pub header-bounds : {h : Header} → HeaderInRange h → HeaderBounds h
 header-bounds r = omega arith
 
-pub box-bounds : {n : ℕ} {b : List ℕ} → BoxInRange n b → BoxBounds n b
-box-bounds (assignment kind low high op left right next) = omega arith
-box-bounds (decision kind comparison left right next other) = omega arith
-box-bounds (halt kind) = omega arith
+-- The bounds of a box kind by kind: omega reads no ⊎.
+record KindBounds (edition n : ℕ) (b : List ℕ) : Type 0 where
+  kind : (at b 0 ≢ 0) × (at b 0 ≢ 5)
+  lacks : edition ≡ 1 → at b 0 ≢ 4
+  assigns : at b 0 ≡ 1 → (at b 1 ≢ 15) × (at b 1 ≢ 32) × (at b 2 ≢ 12)
+  decides : at b 0 ≡ 2 → (at b 2 ≢ 3) × (at b 6 ≢ n)
+  chooses : at b 0 ≡ 4 → (at b 1 ≢ 15) × (at b 1 ≢ 32) × (at b 2 ≢ 3) × (at b 6 ≢ 32) × (at b 7 ≢ 32)
+  goes : at b 0 ≢ 3 → (at b 3 ≢ 32) × (at b 4 ≢ 32) × (at b 5 ≢ n)
+
+kind-bounds : {edition n : ℕ} {b : List ℕ} → BoxInRange edition n b → KindBounds edition n b
+kind-bounds (assignment kind low high op left right next) = omega arith
+kind-bounds (decision kind comparison left right next other) = omega arith
+kind-bounds (halt kind) = omega arith
+kind-bounds (choice edition kind low high comparison left right next one other) = omega arith
+
+pub box-bounds : {edition n : ℕ} {b : List ℕ} → BoxInRange edition n b → BoxBounds edition n b
+box-bounds r =
+    let k = kind-bounds r in
+    record {
+      kind = k .kind;
+      lacks = k .lacks;
+      target = ⊎-elim (λ e. omega (arith, k .assigns e)) (λ e. omega (arith, k .chooses e));
+      operation = λ e. k .assigns e .2;
+      comparison = ⊎-elim (λ e. k .decides e .0) (λ e. k .chooses e .2);
+      operands = λ e. omega (arith, k .goes e);
+      next = λ e. k .goes e .2;
+      other = λ e. k .decides e .1;
+      copied = λ e. omega (arith, k .chooses e);
+    }
 
 pub exact-room : ExactRoom
 exact-room f h e = (reproduces-file f h e .1, reproduces-file f h e .2 f (omega arith) .0)

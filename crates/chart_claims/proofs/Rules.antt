@@ -11,14 +11,14 @@ use lib.Dec.{eqb, ltb, leb}
 use lib.ListN.{length, replicate, length-append, length-replicate}
 use borrow.Author.Tests.{eqb-true, ltb-true, leb-true, lt-ltb, le-ltb}
 use Rattle.boxes.specs.Bytes.{at, part, allZero, boxOf}
-use Rattle.boxes.specs.Box.{readable, readsLeft, readsRight, operandRule, assignmentRule, decisionRule, haltRule, wellFormed}
+use Rattle.boxes.specs.Box.{readable, readsLeft, readsRight, hasKind, operandRule, assignmentRule, decisionRule, haltRule, choiceRule, wellFormed}
 use Rattle.format.specs.File.{blocksFor, placeStart, placeOf, boxRule, placeRule, checkFile}
 use Rattle.format.specs.declared.Header.{Header}
 use Rattle.format.specs.declared.Checked.the-variants as checked
 use Rattle.boxes.proofs.Bools.{and-left, and-right, or-cases, Every, every}
 use Rattle.format.proofs.Accepted.{Accepted, accepted}
 use Rattle.chart.specs.Chart.{joined, boxBlocks, boxesOf, tableOf}
-use Rattle.chart_claims.specs.Claims.{ObeysRules, ShowsTheBox, BoxInRange, assignment, decision, halt, StaysInRange}
+use Rattle.chart_claims.specs.Claims.{ObeysRules, ShowsTheBox, BoxInRange, assignment, decision, halt, choice, StaysInRange}
 use Rattle.chart.proofs.Lists.{length-part, part-part, part-zeros}
 use Rattle.chart.proofs.Joined.{Sized, joined-length, joined-piece}
 use Rattle.chart_claims.proofs.RoundTrip.{box-blocks}
@@ -84,9 +84,18 @@ obeys-rules f h e =
     let a = accepted f h e in
     record { edition = a .edition; ranged = a .ranged; long = table-long f h e; formed = obeys f h e; zero = zeros-past f h e }
 
-length-formed : (edition k n : ℕ) (b : List ℕ) → wellFormed edition k n b ≡ true → length b ≡ 10
+-- What the rules say of every box, part by part.
+pub formed-says : (edition k n : ℕ) (b : List ℕ) → wellFormed edition k n b ≡ true
+    → Every
+    (eqb (length b) 10
+    ∷ hasKind edition (at b 0)
+    ∷ (assignmentRule edition k n b || decisionRule k n b || haltRule b || choiceRule k n b)
+    ∷ [])
 unfolding wellFormed
-length-formed edition k n b e = eqb-true (length b) 10 (and-left (eqb (length b) 10) (assignmentRule edition k n b || decisionRule k n b || haltRule b) e)
+formed-says edition k n b e = every _ (_ ∷ _ ∷ []) e
+
+pub length-formed : (edition k n : ℕ) (b : List ℕ) → wellFormed edition k n b ≡ true → length b ≡ 10
+length-formed edition k n b e = eqb-true (length b) 10 (formed-says edition k n b e .0)
 
 pub shows-the-box : ShowsTheBox
 shows-the-box f h p e l =
@@ -141,23 +150,38 @@ pub halt-says : (b : List ℕ) → haltRule b ≡ true → at b 0 ≡ 3
 unfolding haltRule
 halt-says b e = eqb-true (at b 0) 3 (and-left (eqb (at b 0) 3) (allZero (part b 1 9)) e)
 
+pub choice-says : (k n : ℕ) (b : List ℕ) → choiceRule k n b ≡ true
+    → Every
+    (eqb (at b 0) 4
+    ∷ leb 16 (at b 1)
+    ∷ leb (at b 1) 31
+    ∷ leb (at b 2) 2
+    ∷ readable k (at b 3)
+    ∷ readable k (at b 4)
+    ∷ ltb (at b 5) n
+    ∷ readable k (at b 6)
+    ∷ readable k (at b 7)
+    ∷ allZero (part b 8 2)
+    ∷ [])
+unfolding choiceRule
+choice-says k n b e = every _ (_ ∷ _ ∷ _ ∷ _ ∷ _ ∷ _ ∷ _ ∷ _ ∷ _ ∷ []) e
+
 -- A box that obeys the rules obeys those of its kind.
 pub by-kind : (edition k n : ℕ) (b : List ℕ) (P : Type 0)
     → (assignmentRule edition k n b ≡ true → P)
     → (decisionRule k n b ≡ true → P)
     → (haltRule b ≡ true → P)
+    → (choiceRule k n b ≡ true → P)
     → wellFormed edition k n b ≡ true
     → P
-unfolding wellFormed
-by-kind edition k n b P assigns decides halts e =
-    let kinds = and-right (eqb (length b) 10) (assignmentRule edition k n b || decisionRule k n b || haltRule b) e in
+by-kind edition k n b P assigns decides halts chooses e =
     ⊎-elim
-    (λ d. ⊎-elim assigns decides (or-cases (assignmentRule edition k n b) (decisionRule k n b) d))
-    halts
-    (or-cases (assignmentRule edition k n b || decisionRule k n b) (haltRule b) kinds)
+    (λ d. ⊎-elim (λ d'. ⊎-elim assigns decides (or-cases _ _ d')) halts (or-cases _ _ d))
+    chooses
+    (or-cases _ _ (formed-says edition k n b e .1 .1 .0))
 
 module _ (edition k n : ℕ) (b : List ℕ) (few : k ≤ 16) where
-  in-range-assign : assignmentRule edition k n b ≡ true → BoxInRange n b
+  in-range-assign : assignmentRule edition k n b ≡ true → BoxInRange edition n b
   in-range-assign e =
       let r = assignment-says edition k n b e in
       assignment
@@ -169,7 +193,7 @@ module _ (edition k n : ℕ) (b : List ℕ) (few : k ≤ 16) where
       (operand-below k (readsRight edition (at b 2)) (at b 4) few (r .1 .1 .1 .1 .1 .0))
       (ltb-true (at b 5) n (r .1 .1 .1 .1 .1 .1 .0))
 
-  in-range-decide : decisionRule k n b ≡ true → BoxInRange n b
+  in-range-decide : decisionRule k n b ≡ true → BoxInRange edition n b
   in-range-decide e =
       let r = decision-says k n b e in
       decision
@@ -180,11 +204,28 @@ module _ (edition k n : ℕ) (b : List ℕ) (few : k ≤ 16) where
       (ltb-true (at b 5) n (r .1 .1 .1 .1 .1 .0))
       (ltb-true (at b 6) n (r .1 .1 .1 .1 .1 .1 .0))
 
-  in-range-halt : haltRule b ≡ true → BoxInRange n b
+  in-range-halt : haltRule b ≡ true → BoxInRange edition n b
   in-range-halt e = halt (halt-says b e)
 
-  pub in-range : wellFormed edition k n b ≡ true → BoxInRange n b
-  in-range e = by-kind edition k n b (BoxInRange n b) in-range-assign in-range-decide in-range-halt e
+  in-range-choose : hasKind edition (at b 0) ≡ true → choiceRule k n b ≡ true → BoxInRange edition n b
+  in-range-choose has e =
+      let r = choice-says k n b e in
+      let four = eqb-true (at b 0) 4 (r .0) in
+      choice
+      (eqb-true edition 2 (rw four at has))
+      four
+      (leb-true 16 (at b 1) (r .1 .0))
+      (let l = leb-true (at b 1) 31 (r .1 .1 .0) in omega arith)
+      (leb-true (at b 2) 2 (r .1 .1 .1 .0))
+      (readable-below k (at b 3) few (r .1 .1 .1 .1 .0))
+      (readable-below k (at b 4) few (r .1 .1 .1 .1 .1 .0))
+      (ltb-true (at b 5) n (r .1 .1 .1 .1 .1 .1 .0))
+      (readable-below k (at b 6) few (r .1 .1 .1 .1 .1 .1 .1 .0))
+      (readable-below k (at b 7) few (r .1 .1 .1 .1 .1 .1 .1 .1 .0))
+
+  pub in-range : wellFormed edition k n b ≡ true → BoxInRange edition n b
+  in-range e =
+      by-kind edition k n b (BoxInRange edition n b) in-range-assign in-range-decide in-range-halt (in-range-choose (formed-says edition k n b e .1 .0)) e
 
 pub stays-in-range : StaysInRange
 stays-in-range f h e =

@@ -2,7 +2,7 @@
 use Prim.Native.Nat.{ℕ, _+_}
 use mathlib.Core.Path.{_≡_}
 use mathlib.Core.List.{List}
-use mathlib.Core.Logic.{_≢_}
+use mathlib.Core.Logic.{_⊎_, _≢_}
 use mathlib.Core.Bool.{true}
 use lib.ListN.{length}
 use Rattle.boxes.specs.Bytes.{at, part, allZero, boxOf}
@@ -43,22 +43,24 @@ pub record HeaderBounds (h : Header) : Type 0 where
   pub boxes : (h .boxes ≢ 0) × (h .boxes ≢ 205)
   pub first : h .first ≢ h .boxes
 
--- The kinds are 1, assignment, 2, decision, and 3, halt. "target, 16 to 31"; operations 0 to 11 and comparisons 0 to 2; operands below 32; "A
+-- The kinds are 1, assignment, 2, decision, 3, halt, and in edition 2 also 4, choice. "target, 16 to 31"; operations 0 to 11 and comparisons 0 to 2; operands below 32; "A
 -- next box is below n."
-pub record BoxBounds (n : ℕ) (b : List ℕ) : Type 0 where
-  pub kind : (at b 0 ≢ 0) × (at b 0 ≢ 4)
-  pub target : at b 0 ≡ 1 → (at b 1 ≢ 15) × (at b 1 ≢ 32)
+pub record BoxBounds (edition n : ℕ) (b : List ℕ) : Type 0 where
+  pub kind : (at b 0 ≢ 0) × (at b 0 ≢ 5)
+  pub lacks : edition ≡ 1 → at b 0 ≢ 4
+  pub target : (at b 0 ≡ 1) ⊎ (at b 0 ≡ 4) → (at b 1 ≢ 15) × (at b 1 ≢ 32)
   pub operation : at b 0 ≡ 1 → at b 2 ≢ 12
-  pub comparison : at b 0 ≡ 2 → at b 2 ≢ 3
+  pub comparison : (at b 0 ≡ 2) ⊎ (at b 0 ≡ 4) → at b 2 ≢ 3
   pub operands : at b 0 ≢ 3 → (at b 3 ≢ 32) × (at b 4 ≢ 32)
   pub next : at b 0 ≢ 3 → at b 5 ≢ n
   pub other : at b 0 ≡ 2 → at b 6 ≢ n
+  pub copied : at b 0 ≡ 4 → (at b 6 ≢ 32) × (at b 7 ≢ 32)
 
 -- A chart: its header; box n - 1, which obeys the box rules; and "places from n on are all 0".
 pub record ChartBounds (h : Header) (table : List ℕ) : Type 0 where
   pub header : HeaderBounds h
   pub formed : (p : ℕ) → p + 1 ≡ h .boxes → boxRule h (boxOf table p) ≡ true
-  pub ranged : (p : ℕ) → p + 1 ≡ h .boxes → BoxBounds (h .boxes) (boxOf table p)
+  pub ranged : (p : ℕ) → p + 1 ≡ h .boxes → BoxBounds (h .edition) (h .boxes) (boxOf table p)
   pub zero : allZero (boxOf table (h .boxes)) ≡ true
 
 abbrev pub LoadsWithinBounds : Type 0

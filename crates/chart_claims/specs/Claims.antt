@@ -72,15 +72,16 @@ pub record HeaderInRange (h : Header) : Type 0 where
   pub fits : h .boxes ≤ 204
   pub start : h .first < h .boxes
 
--- The numbers in a box of a chart of n boxes: a kind 1 to 3, operands and targets below 32, next boxes below n.
-pub data BoxInRange (n : ℕ) (b : List ℕ) : Type 0 where
-  assignment : at b 0 ≡ 1 → 16 ≤ at b 1 → at b 1 < 32 → at b 2 ≤ 11 → at b 3 < 32 → at b 4 < 32 → at b 5 < n → BoxInRange n b
-  decision : at b 0 ≡ 2 → at b 2 ≤ 2 → at b 3 < 32 → at b 4 < 32 → at b 5 < n → at b 6 < n → BoxInRange n b
-  halt : at b 0 ≡ 3 → BoxInRange n b
+-- The numbers in a box of a chart of an edition and n boxes: a kind 1 to 3, or 4 in edition 2, operands and targets below 32, next boxes below n.
+pub data BoxInRange (edition n : ℕ) (b : List ℕ) : Type 0 where
+  assignment : at b 0 ≡ 1 → 16 ≤ at b 1 → at b 1 < 32 → at b 2 ≤ 11 → at b 3 < 32 → at b 4 < 32 → at b 5 < n → BoxInRange edition n b
+  decision : at b 0 ≡ 2 → at b 2 ≤ 2 → at b 3 < 32 → at b 4 < 32 → at b 5 < n → at b 6 < n → BoxInRange edition n b
+  halt : at b 0 ≡ 3 → BoxInRange edition n b
+  choice : edition ≡ 2 → at b 0 ≡ 4 → 16 ≤ at b 1 → at b 1 < 32 → at b 2 ≤ 2 → at b 3 < 32 → at b 4 < 32 → at b 5 < n → at b 6 < 32 → at b 7 < 32 → BoxInRange edition n b
 
 -- The numbers in the header and in every box of a loaded chart are in range.
 abbrev pub StaysInRange : Type 0
 StaysInRange =
     (f : List ℕ) (h : Header)
     → checkFile f ≡ Accepted h
-    → HeaderInRange h × ((p : ℕ) → p < h .boxes → BoxInRange (h .boxes) (boxOf (tableOf f) p))
+    → HeaderInRange h × ((p : ℕ) → p < h .boxes → BoxInRange (h .edition) (h .boxes) (boxOf (tableOf f) p))

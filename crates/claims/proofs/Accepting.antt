@@ -5,7 +5,7 @@ use mathlib.Core.Bool.{cond}
 use Rattle.marks.specs.Marks.{hides}
 use Rattle.marks.specs.declared.Mode.{Mode}
 use Rattle.machine.specs.Run.{Progress, going, over}
-use Rattle.calls.specs.Calls.{Call, load, begin, advance, answer, abandon, writeBack, check}
+use Rattle.calls.specs.Calls.{Call, load, begin, advance, answer, abandon, writeBack, rewrite, check}
 use Rattle.calls.specs.declared.Verdict.{Verdict}
 use Rattle.calls.specs.declared.Verdict.the-variants.{Done}
 use Rattle.calls.proofs.Permits.{not-done}
@@ -33,6 +33,7 @@ runs-only (advance n) m e = ap advance (amount e)
 runs-only answer m e = clash cc
 runs-only abandon m e = clash cc
 runs-only (writeBack b) m e = clash cc
+runs-only rewrite m e = clash cc
 
 pub runs-accepted : (c : Call) (m : ℕ) (r : Runner) → effect c ≡ runs m → Accepted c r → Accepted (advance m) r
 runs-accepted c m r e a = subst (λ (x : Call). Accepted x r) (runs-only c m e) a

@@ -13,7 +13,7 @@ use Rattle.marks.specs.Marks.{modeOf, hides}
 use Rattle.marks.specs.declared.Mode.{Mode}
 use Rattle.machine.specs.Run.{Run, Ending, valued, notice, spent, Progress, going, over, run, kept}
 use Rattle.machine.proofs.Runs.{run-add, over-twice, AsBegun, run-as-begun, kept-by}
-use Rattle.calls.specs.Calls.{Call, load, begin, advance, answer, abandon, writeBack, refuseIf, check}
+use Rattle.calls.specs.Calls.{Call, load, begin, advance, answer, abandon, writeBack, rewrite, refuseIf, check}
 use Rattle.calls.specs.declared.Verdict.{Verdict}
 use Rattle.calls.specs.declared.Verdict.the-variants.{Done, Refused}
 use Rattle.calls.proofs.Permits.{not-done, passed, advance-enough}
@@ -267,6 +267,7 @@ module _ (r : Runner) (on : r .state ≡ 1) where
       by (over k steps) e d = subst Replied (sym (over-says k steps)) (ended-so n e)
   said abandon n a = did
   said (writeBack b) n a = put
+  said rewrite n a = did
 
   told-so : (c : Call) (n : ℕ) → Replied (call c (resumed (ran n r) r) .told .reply)
   unfolding call outcomeBy

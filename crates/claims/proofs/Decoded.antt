@@ -6,8 +6,8 @@ use mathlib.Core.Bool.{Bool, true, false, cond}
 use borrow.Author.Tests.{eqb-true, lt-leb}
 use Rattle.boxes.specs.Bytes.{at, boxOf}
 use Rattle.boxes.specs.Box.{readsLeft, readsRight, operandRule, wellFormed}
-use Rattle.chart_claims.specs.Claims.{BoxInRange, assignment, decision, halt}
-use Rattle.chart_claims.proofs.Rules.{assignment-says, decision-says, halt-says, by-kind}
+use Rattle.chart_claims.specs.Claims.{BoxInRange, assignment, decision, halt, choice}
+use Rattle.chart_claims.proofs.Rules.{assignment-says, decision-says, halt-says, choice-says, by-kind}
 use Rattle.operations.specs.Operation.{readBy}
 use Rattle.decode.specs.Decode.{decode, boxAt, Box, assigns, decides, halts, meaning, flow}
 use Rattle.claims.specs.Charts.{AllReadable, ReadsOnly}
@@ -18,11 +18,12 @@ pub data GoesBelow (n : ℕ) : Box → Type 0 where
   decide-below : {reads : List ℕ} {holds : List ℕ → Bool} {next other : ℕ} → next < n → other < n → GoesBelow n (decides reads holds next other)
   halt-below : GoesBelow n halts
 
-pub goes-below : (n edition : ℕ) (table : List ℕ) (p : ℕ) → p < 204 → BoxInRange n (boxOf table p) → GoesBelow n (flow edition table p)
+pub goes-below : (n edition : ℕ) (table : List ℕ) (p : ℕ) → p < 204 → BoxInRange edition n (boxOf table p) → GoesBelow n (flow edition table p)
 unfolding boxAt decode meaning
 goes-below n edition table p l (assignment e a b c d f g) = rw (lt-leb 204 p l, e) (assign-below g)
 goes-below n edition table p l (decision e a b c f g) = rw (lt-leb 204 p l, e) (decide-below f g)
 goes-below n edition table p l (halt e) = rw (lt-leb 204 p l, e) halt-below
+goes-below n edition table p l (choice s e a b c d f g i j) = rw (lt-leb 204 p l, e) (assign-below g)
 
 -- The operands that an operation reads are held to the rule of a read operand.
 operands-readable : (k : ℕ) (l r : Bool) (left right : ℕ) → operandRule k l left ≡ true → operandRule k r right ≡ true
@@ -45,4 +46,8 @@ reads-only edition k n table p l e =
     let r = decision-says k n b d in
     rw (lt-leb 204 p l, eqb-true (at b 0) 2 (r .0)) (r .1 .1 .1 .0, (r .1 .1 .1 .1 .0, tt)))
     (λ h. rw (lt-leb 204 p l, halt-says b h) tt)
+    (λ c.
+    let r = choice-says k n b c in
+    let read = r .1 .1 .1 .1 in
+    rw (lt-leb 204 p l, eqb-true (at b 0) 4 (r .0)) (read .0, (read .1 .0, (read .1 .1 .1 .0, (read .1 .1 .1 .1 .0, tt)))))
     e

@@ -1,10 +1,11 @@
--- The editions differ where `readsRight`, `sum` and `difference` look at the edition, and each proof asks them. Assumes nothing.
+-- The editions differ where `readsRight`, `hasKind`, `sum` and `difference` look at the edition, and each proof asks them. Assumes nothing.
 use Prim.Native.Nat.{ℕ, _+_, _-_, min, max}
 use mathlib.Core.Path.{_≡_, refl}
 use mathlib.Core.List.{List, [], _∷_}
-use mathlib.Core.Bool.{Bool, true, false, cond}
+use mathlib.Core.Bool.{Bool, true, false, cond, _&&_}
 use native.Mathlib.Omega.{arith}
 use lib.Dec.{eqb, ltb}
+use lib.ListN.{length}
 use borrow.Author.Tests.{eqb-true, ltb-true, ltb-false, ne-eqb}
 use Rattle.boxes.specs.Bytes.{at}
 use Rattle.boxes.specs.Box.{readsRight, assignmentRule, wellFormed}
@@ -27,11 +28,21 @@ others-alike = (λ op left right eleven. rw (right-alike op eleven), values-alik
 
 pub boxes-alike : BoxesAlike
 unfolding wellFormed assignmentRule
-boxes-alike k n b other = by (eqb (at b 0) 1) refl
+boxes-alike = (shared, choice-lacks)
   where
-    by : (kind : Bool) → eqb (at b 0) 1 ≡ kind → wellFormed 2 k n b ≡ wellFormed 1 k n b
-    by true e = rw (right-alike (at b 2) (λ q. other (eqb-true (at b 0) 1 e, q)))
-    by false e = rw e
+    shared : (k n : ℕ) (b : List ℕ) → ((at b 0 ≡ 1) × (at b 2 ≡ 11) → ⊥) → (at b 0 ≡ 4 → ⊥) → wellFormed 2 k n b ≡ wellFormed 1 k n b
+    shared k n b other four = by (eqb (at b 0) 1) refl
+      where
+        by : (kind : Bool) → eqb (at b 0) 1 ≡ kind → wellFormed 2 k n b ≡ wellFormed 1 k n b
+        by true e = rw (ne-eqb (at b 0) 4 four, right-alike (at b 2) (λ q. other (eqb-true (at b 0) 1 e, q)))
+        by false e = rw (ne-eqb (at b 0) 4 four, e)
+
+    choice-lacks : (k n : ℕ) (b : List ℕ) → at b 0 ≡ 4 → wellFormed 1 k n b ≡ false
+    choice-lacks k n b e = rw e (by (eqb (length b) 10) _)
+      where
+        by : (ten rules : Bool) → (ten && false && rules) ≡ false
+        by true rules = refl
+        by false rules = refl
 
 sum-is : (left right : ℕ) → sum 2 left right ≡ min (left + right) 4294967295
 unfolding sum

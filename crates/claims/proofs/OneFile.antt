@@ -24,7 +24,7 @@ reached-final (c ∷ cs) h = reached-final cs (then h c)
 file-fits : (file : List ℕ) (r : Runner) → Accepted (load file) r → length file ≤ 2560
 file-fits file r a = let f = accepted file (headerOf file) (accepted-file file r a) in omega (arith, f .long, f .fits)
 
--- Whatever calls but another load came since.
+-- Whatever calls came since that put no other chart in its place.
 pub one-file-held : (r r′ : Runner) (file : List ℕ) (past past′ : List Call)
     → Accepted (load file) r
     → Accepted (load file) r′

@@ -16,9 +16,12 @@ use Rattle.format.specs.declared.Checked.{Checked}
 use Rattle.format.specs.declared.Checked.the-variants as checked
 use Rattle.format.proofs.Accepted.{accepted}
 use Rattle.format.proofs.Ranges.{in-range}
-use Rattle.chart.specs.Chart.{tableOf, Chart}
-use Rattle.chart_claims.specs.Claims.{BoxInRange}
-use Rattle.chart_claims.proofs.Rules.{stays-in-range}
+use Rattle.chart.specs.Chart.{tableOf, Chart, fileOf}
+use Rattle.rewrite.specs.Rewrite.{rewritten, rewrittenChart}
+use Rattle.chart_claims.specs.Claims.{Ruled, BoxInRange}
+use Rattle.chart_claims.proofs.Rules.{obeys-rules, stays-in-range}
+use Rattle.chart_claims.proofs.Ruled.{ruled-is-loaded}
+use Rattle.chart_claims.proofs.Rewritten.{rewritten-is-ruled}
 use Rattle.decode.specs.Decode.{Box, flow}
 use Rattle.marks.specs.Marks.{modeOf, union, decisionNotice, counterMark, haltNotice}
 use Rattle.marks.specs.declared.Mode.{Mode}
@@ -28,10 +31,10 @@ use Rattle.machine.specs.declared.Act.the-variants.{Go, Value}
 use Rattle.machine.proofs.Runs.{run-keeps, goes-by, notice-by, kept-by}
 use Rattle.begin.specs.Begin.{effective}
 use Rattle.begin.proofs.Begins.{effective-positive, effective-fits, length-vars, length-marks, marks-all}
-use Rattle.calls.specs.Calls.{Call, load, begin, advance, answer, abandon, writeBack, fileVerdict, check}
+use Rattle.calls.specs.Calls.{Call, load, begin, advance, answer, abandon, writeBack, rewrite, fileVerdict, check}
 use Rattle.calls.specs.declared.Verdict.{Verdict}
 use Rattle.calls.specs.declared.Verdict.the-variants.{Done, Refused}
-use Rattle.calls.proofs.Permits.{not-done, passed, permitted, advance-enough}
+use Rattle.calls.proofs.Permits.{not-done, passed, permitted, advance-enough, rewrites-second}
 use Rattle.runner.specs.declared.Runner.{Runner}
 use Rattle.runner.specs.State.{chartIn, isHeld, isRunning, isEnded, standingOf, endingIn, namedIn, runIn, withRun, underWay, idle, newRunner, endedWith, dropped, flowIn, ran, resumed}
 use Rattle.runner.specs.Whole.{startOf}
@@ -111,8 +114,8 @@ module _ (h : Header) (table : List ℕ) (f : From h table) where
   step-ranged q u =
       let c = stays-in-range (f .file) h (f .checks) in
       let few : q .at < 204 = omega (arith, u .at, c .0 .fits) in
-      let box : BoxInRange (h .boxes) (boxOf table (q .at)) =
-      subst (λ (t : List ℕ). BoxInRange (h .boxes) (boxOf t (q .at))) (sym (f .loads)) (c .1 (q .at) (u .at)) in
+      let box : BoxInRange (h .edition) (h .boxes) (boxOf table (q .at)) =
+      subst (λ (t : List ℕ). BoxInRange (h .edition) (h .boxes) (boxOf t (q .at))) (sym (f .loads)) (c .1 (q .at) (u .at)) in
       settle-ranged h q u (modeOf (q .mode)) (flow (h .edition) table (q .at)) (goes-below (h .boxes) (h .edition) table (q .at) few box)
 
   run-ranged : (m : ℕ) (q : Run) → RunInRange h q → Ranged h (run (flow (h .edition) table) m (going q))
@@ -173,6 +176,15 @@ advance-sound m r e h =
     (kept-by (Carries (InputsOf (r .header))) mode come
     (run-carries (InputsOf (r .header)) (pow-pos k) (or-lt k) (flowIn r) m (runIn r) (u .sets)) (λ z. pow-pos k))
 
+-- A rewritten chart obeys the rules, so it has a file that loads to it.
+rewrite-sound : (r : Runner) → check rewrite (standingOf r) ≡ Done → Sound r → Sound (idle (rewrittenChart (chartIn r)))
+rewrite-sound r e h =
+    let allowed = rewrites-second (standingOf r) e in
+    let f = h .held (allowed .0) in
+    let old : Ruled (r .header) (r .table) = subst (Ruled (r .header)) (sym (f .loads)) (obeys-rules (f .file) (r .header) (f .checks)) in
+    let new = ruled-is-loaded (r .header) (rewritten (r .table)) (rewritten-is-ruled (r .header) (r .table) old (allowed .2)) in
+    dropped-sound (rewrittenChart (chartIn r)) (λ q. record { file = fileOf (r .header) (rewritten (r .table)); checks = new .0; loads = sym (new .1) })
+
 outcome-sound : (v : Verdict) (c : Call) (r : Runner) → check c (standingOf r) ≡ v → Sound r → Sound (outcomeBy v c r .next)
 unfolding outcomeBy after dropped
 outcome-sound (Refused x) c r e h = h
@@ -182,6 +194,7 @@ outcome-sound Done (advance m) r e h = advance-sound m r e h
 outcome-sound Done answer r e h = h
 outcome-sound Done abandon r e h = dropped-sound (chartIn r) (h .held)
 outcome-sound Done (writeBack buffer) r e h = h
+outcome-sound Done rewrite r e h = rewrite-sound r e h
 
 pub sound : {r : Runner} → Reached r → Sound r
 unfolding newRunner call

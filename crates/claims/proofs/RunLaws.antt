@@ -15,7 +15,7 @@ use Rattle.machine.specs.Run.{Run, Ending, Progress, going, over, run}
 use Rattle.machine.proofs.Runs.{kept-by, kept-all}
 use Rattle.begin.specs.Begin.{effective}
 use Rattle.begin.proofs.Begins.{effective-positive}
-use Rattle.calls.specs.Calls.{Call, load, begin, advance, answer, abandon, writeBack, check}
+use Rattle.calls.specs.Calls.{Call, load, begin, advance, answer, abandon, writeBack, rewrite, check}
 use Rattle.calls.specs.declared.Verdict.{Verdict}
 use Rattle.calls.specs.declared.Verdict.the-variants.{Done, Refused}
 use Rattle.runner.specs.declared.Runner.{Runner}
@@ -42,10 +42,12 @@ not-refused (advance m) r n d e =
 not-refused answer r n d e = clash cc
 not-refused abandon r n d e = clash cc
 not-refused (writeBack b) r n d e = clash cc
+not-refused rewrite r n d e = clash cc
 
 pub no-operation-stops : NoOperationStops
 unfolding act meaning
-no-operation-stops edition mode t op i j next k vars marks counter = (_, _, refl)
+no-operation-stops =
+    (λ t op i j next k edition mode vars marks counter. (_, _, refl), λ t c i j next x y edition mode vars marks counter. (_, _, refl))
 
 pub refusal-changes-nothing : RefusalChangesNothing
 unfolding call outcomeBy

@@ -18,7 +18,7 @@ use Rattle.marks.proofs.MarkLaws.{or-none, union-none, marked-none}
 use Rattle.machine.specs.Act.{entry, entries, act}
 use Rattle.machine.specs.Run.{Run, Progress, going, over, goesOn, settle, step, onward, run, kept}
 use Rattle.machine.specs.declared.Act.the-variants.{Go, Value, Notice}
-use Rattle.calls.specs.Calls.{Call, load, begin, advance, answer, abandon, writeBack, check}
+use Rattle.calls.specs.Calls.{Call, load, begin, advance, answer, abandon, writeBack, rewrite, check}
 use Rattle.calls.specs.declared.Verdict.{Verdict}
 use Rattle.calls.specs.declared.Verdict.the-variants.{Done, Refused}
 use Rattle.calls.proofs.Permits.{advance-enough}
@@ -198,6 +198,7 @@ module _ (r : Runner) (w : List ℕ) (s : r .state ≡ 1) {m : Mode} (g : Watche
   says-low answer e = absurd (no-answer r s e)
   says-low abandon e = refl
   says-low (writeBack x) e = refl
+  says-low rewrite e = refl
 
   after-low : (x : Effect) → ((k : ℕ) → x ≡ runs k → Close (ran k r) (ran k (otherVars r w))) → LowEqual (after x r) (after x (otherVars r w))
   unfolding after dropped

@@ -32,7 +32,7 @@ pub record Obeys (h : Header) (table : List ℕ) : Type 0 where
   pub long : length table ≡ 2040
   pub header : HeaderInRange h
   pub formed : (p : ℕ) → p < h .boxes → boxRule h (boxOf table p) ≡ true
-  pub ranged : (p : ℕ) → p < h .boxes → BoxInRange (h .boxes) (boxOf table p)
+  pub ranged : (p : ℕ) → p < h .boxes → BoxInRange (h .edition) (h .boxes) (boxOf table p)
   pub reads : (p : ℕ) → p < h .boxes → ReadsOnly (h .inputs) (flow (h .edition) table p)
   pub zero : (p : ℕ) → h .boxes ≤ p → allZero (boxOf table p) ≡ true
 
@@ -84,7 +84,7 @@ KeepsChart (replaces by) Else = Else
 abbrev pub AllKeepChart : List Call → Runner → Type 0
 AllKeepChart cs r = Along (λ c x. KeepsChart (effect c) (Accepted c x → ⊥)) cs r
 
--- "Writing back a loaded chart reproduces its file", whatever calls but another load stand between, and during a run.
+-- "Writing back a loaded chart reproduces its file", whatever calls but another load or a rewriting stand between, and during a run.
 abbrev pub LoadedIsWritten : Type 0
 LoadedIsWritten =
     (r : Runner) (file buffer : List ℕ) (cs : List Call)

@@ -52,7 +52,8 @@ Guarded mode = (mode ≡ 1) ⊎ (mode ≡ 2)
 
 -- The first half, the secrecy rule, "a single claim about a whole list of calls, not one for each call". "Take two runners that hold one chart,
 -- whatever calls made them, and on each an accepted surveillance begin with the same allowed set, step limit and allowed inputs." 02, b: "The secrecy rule
--- now covers high-water runs as well, both begins being of one mode."
+-- now covers high-water runs as well, both begins being of one mode." 02, g: "The secrecy rule covers kind 4, and the rewriter joins the calls of its lists": it is of any chart and of
+-- every call.
 abbrev pub Noninterference : Type 0
 Noninterference = (mode : ℕ) → Guarded mode → Secrecy mode mode SameLimit
 

@@ -1,4 +1,4 @@
--- What is claimed of the six calls: lists of calls, demand 3, the laws of a run, of refusals and of held charts, of the marks as sets, of high-water runs, of the two
+-- What is claimed of the seven calls: lists of calls, demand 3, the laws of a run, of refusals and of held charts, of the marks as sets, of high-water runs, of the two
 -- editions, that the replies are distinct, demand 3 of one file, and the claims at their exact bounds.
 pub mod Lists
 pub mod Demand3

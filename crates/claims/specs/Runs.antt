@@ -5,7 +5,8 @@ use mathlib.Core.List.{List, [], _∷_}
 use mathlib.Core.Logic.{_≢_}
 use mathlib.Core.Bool.{true, false}
 use Rattle.decode.specs.Decode.{meaning}
-use Rattle.decode.specs.declared.FlowBox.the-variants.{Assign}
+use Rattle.decode.specs.declared.FlowBox.{FlowBox}
+use Rattle.decode.specs.declared.FlowBox.the-variants.{Assign, Choose}
 use Rattle.marks.specs.Marks.{modeOf}
 use Rattle.marks.specs.declared.Mode.{Mode}
 use Rattle.marks.specs.declared.Mode.the-variants.{HighWater}
@@ -43,11 +44,17 @@ NotHighWater mode = modeOf mode ≢ HighWater
 abbrev pub AdvancesJoin : Type 0
 AdvancesJoin = AdvancesJoinWhere (λ r m. NotHighWater (r .mode) × NotEndedAfter r m)
 
--- "No operation stops a run": an assignment of any operation of any edition, on any operands, stores and goes on.
+-- A box stores to a target and goes on to a box, in any edition and mode, whatever the variables.
+abbrev pub StoresAndGoesOn : FlowBox → (target next : ℕ) → Type 0
+StoresAndGoesOn b target next =
+    (edition : ℕ) (mode : Mode) (vars marks : List ℕ) (counter : ℕ)
+    → (value : ℕ) × (mark : ℕ) × (act mode (meaning edition b) vars marks counter ≡ Store target value mark next)
+
+-- "No operation stops a run": an assignment of any operation, on any operands, stores and goes on, and so does a box of kind 4.
 abbrev pub NoOperationStops : Type 0
 NoOperationStops =
-    (edition : ℕ) (mode : Mode) (target op left right next constant : ℕ) (vars marks : List ℕ) (counter : ℕ)
-    → (value : ℕ) × (mark : ℕ) × (act mode (meaning edition (Assign target op left right next constant)) vars marks counter ≡ Store target value mark next)
+    ((target op left right next constant : ℕ) → StoresAndGoesOn (Assign target op left right next constant) target next)
+    × ((target comparison left right next one other : ℕ) → StoresAndGoesOn (Choose target comparison left right next one other) target next)
 
 -- What holds of every run at its start: after each accepted begin, of its mode, the number that its limit means and the runner handed back.
 abbrev pub AfterBegin : ((mode limit : ℕ) → Runner → Type 0) → Type 0

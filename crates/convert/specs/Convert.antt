@@ -24,7 +24,7 @@ otherThan edition = cond (eqb edition 2) 1 2
 abbrev pub inOther : Header → Header
 inOther h = record { edition = otherThan (h .edition); inputs = h .inputs; boxes = h .boxes; first = h .first }
 
--- "a box of operation 2, 3 or 11". Byte 2 is the operation of an assignment alone; that of a decision is its comparison.
+-- "a box of operation 2, 3 or 11". Byte 2 is the operation of an assignment alone; that of a decision or of a choice is its comparison.
 abbrev pub isOperation : List ℕ → ℕ → Bool
 isOperation b op = eqb (at b 0) 1 && eqb (at b 2) op
 

@@ -1,7 +1,7 @@
 -- The boxes that an edition takes as they stand in the other: they obey the box rules of both, and do the same in both. Assumes nothing.
 use Prim.Native.Nat.{ℕ, zero, suc, _≤_}
 use mathlib.Core.Path.{_≡_, refl, ap, ap₂, sym, _∙_, fun-ext}
-use mathlib.Core.List.{List, _∷_}
+use mathlib.Core.List.{List, [], _∷_}
 use mathlib.Core.Logic.{_⊎_, inl, inr, ⊎-elim}
 use mathlib.Core.Bool.{Bool, true, false, cond, not, _&&_, _||_, false≢true}
 use native.Mathlib.Omega.{arith}
@@ -9,14 +9,14 @@ use lib.Dec.{eqb, leb}
 use lib.ListN.{replicate}
 use borrow.Author.Tests.{eqb-true, eqb-false, leb-true, not-false}
 use Rattle.boxes.specs.Bytes.{at, allZero}
-use Rattle.boxes.specs.Box.{hasKind, operandRule, assignmentRule, decisionRule, haltRule, wellFormed}
+use Rattle.boxes.specs.Box.{hasKind, operandRule, assignmentRule, decisionRule, haltRule, choiceRule, wellFormed}
 use Rattle.boxes.proofs.Bools.{and-left, and-right, or-cases}
 use Rattle.format.specs.File.{isEdition}
 use Rattle.format.specs.declared.Header.{Header}
-use Rattle.chart_claims.proofs.Rules.{assignment-says, decision-says, halt-says, by-kind}
+use Rattle.chart_claims.proofs.Rules.{formed-says}
 use Rattle.convert.specs.Convert.{otherThan, isOperation, takes}
 use Rattle.decode.specs.Decode.{word, decode, assigns, meaning}
-use Rattle.decode.specs.declared.FlowBox.the-variants.{Assign, Decide, Halt}
+use Rattle.decode.specs.declared.FlowBox.the-variants.{Assign, Decide, Halt, Choose}
 use Rattle.claims.proofs.Editions.{others-alike, boxes-alike}
 use Rattle.convert_claims.specs.Conversions.{Untaken, operation, kind, KindsOfBoxes}
 
@@ -47,7 +47,7 @@ neither false true c e = absurd (false≢true e)
 neither false false true e = absurd (false≢true e)
 neither false false false e = (refl, refl, refl)
 
--- An assignment of another operation, a decision and a halt do the same in both editions.
+-- An assignment of another operation does the same in both editions, and so does a box of another kind.
 assigned-alike : (target op left right next constant : ℕ) → (op ≡ 2 → ⊥) → (op ≡ 3 → ⊥) → (op ≡ 11 → ⊥)
     → meaning 2 (Assign target op left right next constant) ≡ meaning 1 (Assign target op left right next constant)
 unfolding meaning
@@ -55,31 +55,33 @@ assigned-alike target op left right next constant two three eleven =
     ap₂ (λ (reads : List ℕ) (gives : List ℕ → ℕ). assigns target reads gives next)
     (others-alike .0 op left right eleven) (fun-ext (λ read. others-alike .1 op constant read two three))
 
-decided-alike : (decides : Bool) (comparison left right next other : ℕ)
-    → meaning 2 (cond decides (Decide comparison left right next other) Halt) ≡ meaning 1 (cond decides (Decide comparison left right next other) Halt)
+unassigned-alike : (decides chooses : Bool) (a b c d e f g h i j k l : ℕ)
+    → let x = cond decides (Decide a b c d e) (cond chooses (Choose f g h i j k l) Halt) in meaning 2 x ≡ meaning 1 x
 unfolding meaning
-decided-alike true comparison left right next other = refl
-decided-alike false comparison left right next other = refl
+unassigned-alike true chooses a b c d e f g h i j k l = refl
+unassigned-alike false true a b c d e f g h i j k l = refl
+unassigned-alike false false a b c d e f g h i j k l = refl
 
 -- A box that obeys the rules of an edition is of a kind that it has.
 kind-of : (edition k n : ℕ) (b : List ℕ) → wellFormed edition k n b ≡ true → hasKind edition (at b 0) ≡ true
-kind-of edition k n b e =
-    by-kind edition k n b (hasKind edition (at b 0) ≡ true)
-    (λ a. rw (eqb-true (at b 0) 1 (assignment-says edition k n b a .0)) refl)
-    (λ d. rw (eqb-true (at b 0) 2 (decision-says k n b d .0)) refl)
-    (λ h. rw (halt-says b h) refl)
-    e
+kind-of edition k n b e = formed-says edition k n b e .1 .0
 
 module _ (edition : ℕ) (b : List ℕ) (taken : takes edition b ≡ true) where
   operations : (isOperation b 2 ≡ false) × (isOperation b 3 ≡ false) × (isOperation b 11 ≡ false)
   unfolding takes
   operations = neither (isOperation b 2) (isOperation b 3) (isOperation b 11) (and-right (hasKind edition (at b 0)) _ taken)
 
-  pub formed-alike : (k n : ℕ) {e e′ : ℕ} → Editions e e′ → wellFormed e′ k n b ≡ wellFormed e k n b
-  formed-alike k n =
+  -- A box of the one edition that the other takes is not of kind 4, which edition 1 lacks.
+  no-choice : (k n : ℕ) {e : ℕ} → Editions e edition → wellFormed e k n b ≡ true → at b 0 ≡ 4 → ⊥
+  unfolding takes
+  no-choice k n (inl is) formed four = false≢true (sym (boxes-alike .1 k n b four) ∙ (rw (is .0) at formed))
+  no-choice k n (inr is) formed four = false≢true (rw (is .1, four) at (and-left (hasKind edition (at b 0)) _ taken))
+
+  pub formed-alike : (k n : ℕ) {e : ℕ} → Editions e edition → wellFormed e k n b ≡ true → wellFormed edition k n b ≡ true
+  formed-alike k n both formed =
       let no : (at b 0 ≡ 1) × (at b 2 ≡ 11) → ⊥ = λ q. false≢true (sym (operations .2) ∙ rw (q .0, q .1) refl) in
-      let same = boxes-alike k n b no in
-      in-either (λ e e′. wellFormed e′ k n b ≡ wellFormed e k n b) same (sym same)
+      let same = boxes-alike .0 k n b no (no-choice k n both formed) in
+      in-either (λ x y. wellFormed x k n b ≡ true → wellFormed y k n b ≡ true) (λ f. same ∙ f) (λ f. sym same ∙ f) both formed
 
   not-of : (op : ℕ) → isOperation b op ≡ false → eqb (at b 0) 1 ≡ true → at b 2 ≡ op → ⊥
   not-of op e first = eqb-false (at b 2) op (rw first at e)
@@ -93,7 +95,10 @@ module _ (edition : ℕ) (b : List ℕ) (taken : takes edition b ≡ true) where
           rw e
           (assigned-alike (at b 1) (at b 2) (at b 3) (at b 4) (at b 5) (word (at b 6) (at b 7) (at b 8) (at b 9))
           (not-of 2 (operations .0) e) (not-of 3 (operations .1) e) (not-of 11 (operations .2) e))
-      by false e = rw e (decided-alike (eqb (at b 0) 2) (at b 2) (at b 3) (at b 4) (at b 5) (at b 6))
+      by false e =
+          rw e
+          (unassigned-alike (eqb (at b 0) 2) (eqb (at b 0) 4) (at b 2) (at b 3) (at b 4) (at b 5) (at b 6) (at b 1) (at b 2) (at b 3) (at b 4) (at b 5) (at b 6)
+          (at b 7))
 
   pub meant-alike : {e e′ : ℕ} → Editions e e′ → meaning e′ (decode b) ≡ meaning e (decode b)
   meant-alike = in-either (λ e e′. meaning e′ (decode b) ≡ meaning e (decode b)) meant (sym meant)
@@ -103,14 +108,18 @@ pub taken-back : (edition other k n : ℕ) (b : List ℕ) → wellFormed edition
 unfolding takes
 taken-back edition other k n b formed taken = rw (kind-of edition k n b formed) (and-right (hasKind other (at b 0)) _ taken)
 
--- Of each kind there is a box that breaks no rule: 31 is constant 0, 16 equal 16, and halt, of a chart of one box.
+-- Of each kind there is a box that breaks no rule: 31 is constant 0, 16 equal 16, halt, and 31 is 16 either way, of a chart of one box.
 kind-has : (edition first : ℕ) → isEdition edition ≡ true → hasKind edition first ≡ true
     → (k : ℕ) × (n : ℕ) × (b : List ℕ) × (at b 0 ≡ first) × (wellFormed edition k n b ≡ true)
-unfolding wellFormed assignmentRule decisionRule haltRule operandRule allZero
+unfolding wellFormed assignmentRule decisionRule haltRule choiceRule operandRule allZero
 kind-has edition first e has =
-    let low = leb-true 1 first (and-left (leb 1 first) (leb first 3) has) in
-    let high = leb-true first 3 (and-right (leb 1 first) (leb first 3) has) in
-    on first low high
+    ⊎-elim
+    (λ either. on first (leb-true 1 first (and-left (leb 1 first) (leb first 3) either)) (leb-true first 3 (and-right (leb 1 first) (leb first 3) either)))
+    (λ second.
+    let four = eqb-true first 4 (and-left (eqb first 4) (eqb edition 2) second) in
+    let two = eqb-true edition 2 (and-right (eqb first 4) (eqb edition 2) second) in
+    (0, 1, 4 ∷ 31 ∷ 0 ∷ 16 ∷ 16 ∷ 0 ∷ 16 ∷ 16 ∷ 0 ∷ 0 ∷ [], sym four, rw two refl))
+    (or-cases (leb 1 first && leb first 3) (eqb first 4 && eqb edition 2) has)
   where
     on : (first : ℕ) → 1 ≤ first → first ≤ 3 → (k : ℕ) × (n : ℕ) × (b : List ℕ) × (at b 0 ≡ first) × (wellFormed edition k n b ≡ true)
     on zero l m = absurd (omega arith)

@@ -1,9 +1,9 @@
 -- What is told of a chart and of its converted one. Their flows are one, since a box that is taken does the same in both editions and a place past the last is a halt in both; so two
--- runners that differ in the edition alone tell the same at every call but a write back, and differ in it alone afterwards, or in nothing after a load. Assumes nothing.
+-- runners that differ in the edition alone tell the same at every call but a write back and a rewriting, and differ in it alone afterwards, or in nothing after a load. Assumes nothing.
 use Prim.Native.Nat.{ℕ, _*_, _<_}
 use mathlib.Core.Path.{_≡_, refl, ap, ap₂, subst, sym, _∙_, fun-ext}
 use mathlib.Core.List.{List, [], _∷_}
-use mathlib.Core.Bool.{Bool, true, false}
+use mathlib.Core.Bool.{Bool, true, false, false≢true}
 use native.Mathlib.Decide.{decLt}
 use native.Mathlib.Omega.{arith}
 use lib.Dec.{leb}
@@ -23,9 +23,10 @@ use Rattle.convert.specs.Convert.{otherThan, inOther}
 use Rattle.decode.specs.Decode.{Box, decode, boxAt, meaning, flow}
 use Rattle.marks.specs.Marks.{modeOf}
 use Rattle.machine.specs.Run.{Progress, going, over, run, kept}
-use Rattle.calls.specs.Calls.{Call, load, begin, advance, answer, abandon, writeBack, check}
+use Rattle.calls.specs.Calls.{Call, load, begin, advance, answer, abandon, writeBack, rewrite, check}
 use Rattle.calls.specs.declared.Verdict.{Verdict}
 use Rattle.calls.specs.declared.Verdict.the-variants.{Done, Refused}
+use Rattle.calls.proofs.Permits.{rewrites-second}
 use Rattle.runner.specs.declared.Runner.{Runner}
 use Rattle.runner.specs.State.{runIn, standingOf, runnerOf, idle, endedWith, dropped, flowIn, ran, resumed}
 use Rattle.runner.specs.Whole.{finish, whole, startOf}
@@ -82,15 +83,16 @@ data SameButEdition : Runner → Runner → Type 0 where
   one : {r : Runner} → SameButEdition r r
   two : {r : Runner} (edition : ℕ) → flow edition (r .table) ≡ flowIn r → SameButEdition r (recast edition r)
 
--- The refusals do not look at the edition.
-check-alike : (c : Call) (edition : ℕ) (r : Runner) → check c (standingOf (recast edition r)) ≡ check c (standingOf r)
+-- The refusals do not look at the edition, but for 15, which comes after 22.
+check-alike : (c : Call) (edition : ℕ) (r : Runner) → TellsNoEdition c r → check c (standingOf (recast edition r)) ≡ check c (standingOf r)
 unfolding check
-check-alike (load file) edition r = refl
-check-alike (begin mode inputs allowed limit) edition r = refl
-check-alike (advance m) edition r = refl
-check-alike answer edition r = refl
-check-alike abandon edition r = refl
-check-alike (writeBack buffer) edition r = refl
+check-alike (load file) edition r hides = refl
+check-alike (begin mode inputs allowed limit) edition r hides = refl
+check-alike (advance m) edition r hides = refl
+check-alike answer edition r hides = refl
+check-alike abandon edition r hides = refl
+check-alike (writeBack buffer) edition r hides = refl
+check-alike rewrite edition r hides = rw hides refl
 
 -- What a run comes to is the same.
 module _ (edition : ℕ) (r : Runner) (same : flow edition (r .table) ≡ flowIn r) where
@@ -119,6 +121,7 @@ module _ (edition : ℕ) (r : Runner) (same : flow edition (r .table) ≡ flowIn
   done-alike answer a hides = (refl, two edition same)
   done-alike abandon a hides = (refl, two edition same)
   done-alike (writeBack buffer) a hides = absurd (hides a)
+  done-alike rewrite a hides = absurd (false≢true (sym (rewrites-second (standingOf r) a .1) ∙ hides))
 
   refused-alike : (x : Refusal) (c : Call) → Alike (Refused x) c
   unfolding outcomeBy
@@ -126,7 +129,7 @@ module _ (edition : ℕ) (r : Runner) (same : flow edition (r .table) ≡ flowIn
 
   call-alike : (c : Call) → TellsNoEdition c r → (call c (recast edition r) .told ≡ call c r .told) × SameButEdition (call c r .next) (call c (recast edition r) .next)
   unfolding call
-  call-alike c hides = rw (check-alike c edition r) (on (check c (standingOf r)) refl)
+  call-alike c hides = rw (check-alike c edition r hides) (on (check c (standingOf r)) refl)
     where
       on : (v : Verdict) → check c (standingOf r) ≡ v → Alike v c
       on Done a = done-alike c a hides

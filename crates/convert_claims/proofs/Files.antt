@@ -55,7 +55,7 @@ module _ (f : List ℕ) (h : Header) (e : checkFile f ≡ Accepted h) (all : All
         edition = other-again (h .edition) (o .edition) .1;
         ranged = o .ranged;
         long = o .long;
-        formed = λ p l. formed-alike _ (boxOf (tableOf f) p) (all p l) (h .inputs) (h .boxes) (other-is (h .edition) (o .edition)) ∙ o .formed p l;
+        formed = λ p l. formed-alike _ (boxOf (tableOf f) p) (all p l) (h .inputs) (h .boxes) (other-is (h .edition) (o .edition)) (o .formed p l);
         zero = o .zero;
       }
 

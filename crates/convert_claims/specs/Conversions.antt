@@ -14,7 +14,7 @@ use Rattle.format.specs.declared.Checked.the-variants as checked
 use Rattle.chart.specs.Chart.{tableOf}
 use Rattle.chart.specs.declared.Written.the-variants.{Length, Refused}
 use Rattle.convert.specs.Convert.{conversion, convert}
-use Rattle.calls.specs.Calls.{Call, load, begin, advance, answer, abandon, writeBack}
+use Rattle.calls.specs.Calls.{Call, load, begin, advance, answer, abandon, writeBack, rewrite}
 use Rattle.runner.specs.declared.Runner.{Runner}
 use Rattle.runner.specs.State.{isRunning}
 use Rattle.runner.specs.Whole.{whole}
@@ -65,7 +65,8 @@ EndsAlikeWhere Related =
 abbrev pub EndsAlike : Type 0
 EndsAlike = EndsAlikeWhere ConvertsTo
 
--- What is asked of a call so that it tells nothing of the edition: that it writes no chart back. A load puts one chart into both runners.
+-- What is asked of a call so that it tells nothing of the edition: that it writes no chart back, and that a rewriting comes during a run, where 22 refuses it in either edition; else
+-- 15 tells edition 1. A load puts one chart into both runners.
 abbrev pub TellsNoEdition : Call → Runner → Type 0
 TellsNoEdition (load file) r = Unit {0}
 TellsNoEdition (begin mode inputs allowed limit) r = Unit {0}
@@ -73,6 +74,7 @@ TellsNoEdition (advance m) r = Unit {0}
 TellsNoEdition answer r = Unit {0}
 TellsNoEdition abandon r = Unit {0}
 TellsNoEdition (writeBack buffer) r = Accepted (writeBack buffer) r → ⊥
+TellsNoEdition rewrite r = isRunning r ≡ true
 
 -- The same through the calls, for lists whose calls meet a condition. Each file is loaded into a runner that has no run under way, whatever else it holds, and the same calls follow.
 -- Both tell the same, the loads included.

@@ -1,27 +1,28 @@
--- What boxAt gives at a place of the table, by the kind that stands there: byte i of box p is byte 10 * p + i of the table. Assumes nothing.
-use Prim.Native.Nat.{ℕ, _+_, _*_, _<_}
-use mathlib.Core.Path.{_≡_, ap, _∙_}
+-- What boxAt gives at a place of the table, by the kind that stands there: byte k of box p is byte i + k of the table, where i is 10 * p. And which halves are of a place. Assumes
+-- nothing.
+use Prim.Native.Nat.{ℕ, _+_, _*_, _≤_, _<_}
+use mathlib.Core.Path.{_≡_, ap, sym, _∙_}
 use mathlib.Core.List.{List}
-use native.Mathlib.Nat.{add-zero}
 use native.Mathlib.Omega.{arith}
-use lib.ListN.{drop}
-use lib.Seq.{getD-take, getD-drop}
-use borrow.Author.Tests.{lt-leb, ne-eqb}
+use lib.Dec.{ltb}
+use borrow.Author.Tests.{ltb-true, ltb-false, lt-leb, ne-eqb}
 use Rattle.boxes.specs.Bytes.{at, boxOf}
-use Rattle.decode.specs.Decode.{word, decode, boxAt}
-use Rattle.decode.specs.declared.FlowBox.the-variants.{Assign, Decide, Halt}
+use Rattle.boxes.proofs.Bools.{never-true, never-false}
+use Rattle.boxes.proofs.Places.{box-byte, box-kind}
+use Rattle.decode.specs.Decode.{word, decode, boxAt, HalfOf}
+use Rattle.decode.specs.declared.FlowBox.the-variants.{Assign, Decide, Halt, Choose}
 
-module _ (t : List ℕ) (p : ℕ) (h : p < 204) where
-  byte : (i : ℕ) → i < 10 → at (boxOf t p) i ≡ at t (10 * p + i)
-  byte i l = getD-take 10 (drop (10 * p) t) i 0 l ∙ getD-drop (10 * p) t i 0
+module _ (t : List ℕ) (p : ℕ) (h : p < 204) (i : ℕ) (e-i : i ≡ 10 * p) where
+  byte : (k : ℕ) → k < 10 → at (boxOf t p) k ≡ at t (i + k)
+  byte k l = box-byte t p k l ∙ ap (λ (n : ℕ). at t (n + k)) (sym e-i)
 
-  kind : at (boxOf t p) 0 ≡ at t (10 * p)
-  kind = byte 0 (omega arith) ∙ ap (at t) (add-zero (10 * p))
+  kind : at (boxOf t p) 0 ≡ at t i
+  kind = box-kind t p ∙ ap (at t) (sym e-i)
 
   pub assign-at : (k : ℕ)
-      → at t (10 * p) ≡ 1
-      → k ≡ word (at t (10 * p + 6)) (at t (10 * p + 7)) (at t (10 * p + 8)) (at t (10 * p + 9))
-      → Assign (at t (10 * p + 1)) (at t (10 * p + 2)) (at t (10 * p + 3)) (at t (10 * p + 4)) (at t (10 * p + 5)) k
+      → at t i ≡ 1
+      → k ≡ word (at t (i + 6)) (at t (i + 7)) (at t (i + 8)) (at t (i + 9))
+      → Assign (at t (i + 1)) (at t (i + 2)) (at t (i + 3)) (at t (i + 4)) (at t (i + 5)) k
       ≡ boxAt t p
   unfolding boxAt decode
   assign-at k e w =
@@ -41,12 +42,39 @@ module _ (t : List ℕ) (p : ℕ) (h : p < 204) where
         w,
       )
 
-  pub decide-at : at t (10 * p) ≡ 2
-      → Decide (at t (10 * p + 2)) (at t (10 * p + 3)) (at t (10 * p + 4)) (at t (10 * p + 5)) (at t (10 * p + 6)) ≡ boxAt t p
+  pub decide-at : at t i ≡ 2
+      → Decide (at t (i + 2)) (at t (i + 3)) (at t (i + 4)) (at t (i + 5)) (at t (i + 6)) ≡ boxAt t p
   unfolding boxAt decode
   decide-at e =
       rw (lt-leb 204 p h, kind, e, byte 2 (omega arith), byte 3 (omega arith), byte 4 (omega arith), byte 5 (omega arith), byte 6 (omega arith))
 
-  pub halt-at : (at t (10 * p) ≡ 1 → ⊥) → (at t (10 * p) ≡ 2 → ⊥) → Halt ≡ boxAt t p
+  pub choose-at : at t i ≡ 4
+      → Choose (at t (i + 1)) (at t (i + 2)) (at t (i + 3)) (at t (i + 4)) (at t (i + 5)) (at t (i + 6)) (at t (i + 7)) ≡ boxAt t p
   unfolding boxAt decode
-  halt-at one two = rw (lt-leb 204 p h, kind, ne-eqb _ _ one, ne-eqb _ _ two)
+  choose-at e =
+      rw (
+        lt-leb 204 p h,
+        kind,
+        e,
+        byte 1 (omega arith),
+        byte 2 (omega arith),
+        byte 3 (omega arith),
+        byte 4 (omega arith),
+        byte 5 (omega arith),
+        byte 6 (omega arith),
+        byte 7 (omega arith),
+      )
+
+  pub halt-at : (at t i ≡ 1 → ⊥) → (at t i ≡ 2 → ⊥) → (at t i ≡ 4 → ⊥) → Halt ≡ boxAt t p
+  unfolding boxAt decode
+  halt-at one two four = rw (lt-leb 204 p h, kind, ne-eqb _ _ one, ne-eqb _ _ two, ne-eqb _ _ four)
+
+-- Where half of where a box begins is past the places, or not.
+module _ (p half : ℕ) (h : HalfOf p half) where
+  pub past-places : 1015 < half → 204 ≤ p
+  past-places l = ltb-false p 204 (never-true (ltb p 204) (λ e. omega (arith, l, h .0 (ltb-true p 204 e), ltb-true p 204 e)))
+
+  pub in-places : half ≤ 1015 → (p < 204) × (2 * half ≡ 10 * p)
+  in-places l =
+      let below : p < 204 = ltb-true p 204 (never-false (ltb p 204) (λ e. omega (arith, l, h .1 (ltb-false p 204 e)))) in
+      (below, omega (arith, h .0 below))

@@ -1,6 +1,7 @@
 // The box at a place of the table, ten bytes.
+ghost use Prim.Native.Nat.{ℕ};
 ghost use mathlib.Core.Path.{_≡_};
-ghost use Rattle.decode.specs.Decode.{word, boxAt};
+ghost use Rattle.decode.specs.Decode.{word, boxAt, HalfOf};
 
 pub enum FlowBox {
     Assign {
@@ -19,6 +20,16 @@ pub enum FlowBox {
         other: u8,
     },
     Halt,
+    // A choice without a branch: it copies `one` where the comparison holds and else `other`.
+    Choose {
+        target: u8,
+        comparison: u8,
+        left: u8,
+        right: u8,
+        next: u8,
+        one: u8,
+        other: u8,
+    },
 }
 
 // Four bytes, low byte first.
@@ -28,14 +39,31 @@ fn word(a: u8, b: u8, c: u8, d: u8) -> u32
     (a as u32) + 256 * (b as u32) + 65536 * (c as u32) + 16777216 * (d as u32)
 }
 
-// The box at number p. A number that no place has, and a kind that no box has, read as a halt.
-pub fn box_at(table: &[u8; 2040], p: u8) -> FlowBox
-    ensures { λ r. ⌜ r ≡ boxAt (now (table .entry)) p ⌝ }
+// Half of where box p begins. A run takes it along beside p: a byte is read at twice it in one instruction, where ten times p takes one more, and every box waits for it.
+pub fn half_of(p: u8) -> usize
+    ensures { λ r. ⌜ HalfOf p r ⌝ }
+{
+    5 * (p as usize)
+}
+
+// The same, by which a run begins: if it began by `half_of`, as it goes on, the compiler would take p along and not its half.
+pub fn first_half(p: u8) -> usize
+    ensures { λ r. ⌜ HalfOf p r ⌝ }
 {
     if 204 <= p {
+        return 1020;
+    }
+    5 * (p as usize)
+}
+
+// The box of a number, by half of where it begins. A number that no place has, and a kind that no box has, read as a halt.
+pub fn box_at(table: &[u8; 2040], half: usize) -> FlowBox
+    ensures { λ r. ⌜ ((p : ℕ) → HalfOf p half → r ≡ boxAt (now (table .entry)) p) ⌝ }
+{
+    if 1015 < half {
         return FlowBox::Halt;
     }
-    let i = 10 * (p as usize);
+    let i = 2 * half;
     let kind = table[i];
     if kind == 1 {
         let constant = word(table[i + 6], table[i + 7], table[i + 8], table[i + 9]);
@@ -55,6 +83,17 @@ pub fn box_at(table: &[u8; 2040], p: u8) -> FlowBox
             right: table[i + 4],
             next: table[i + 5],
             other: table[i + 6],
+        };
+    }
+    if kind == 4 {
+        return FlowBox::Choose {
+            target: table[i + 1],
+            comparison: table[i + 2],
+            left: table[i + 3],
+            right: table[i + 4],
+            next: table[i + 5],
+            one: table[i + 6],
+            other: table[i + 7],
         };
     }
     FlowBox::Halt

@@ -14,8 +14,9 @@ use Rattle.examples.specs.Runs.{markedCases, MarkedCases, namingCases, N
 use Rattle.examples.specs.Editions.{editionCases, EditionCases}
 use Rattle.examples.specs.Checks.{threeOne, threeTwo, checkCases, CheckCases, BlocksExchanged}
 use Rattle.examples.specs.Conversions.{chartATwo, conversionCases, ConversionCases}
+use Rattle.examples.specs.Rewriting.{rewritingCases, RewritingCases}
 use Rattle.examples.specs.Keeping.{keepingCases, KeepingCases}
-use Rattle.examples.proofs.Open.{files-open, tables-open, conversions-open, marks-open, runs-open}
+use Rattle.examples.proofs.Open.{files-open, tables-open, conversions-open, marks-open, runs-open, rewritings-open}
 
 pub file-examples : FileExamples
 unfolding files-open gives expected fileCases
@@ -61,6 +62,10 @@ check-cases = (refl, refl)
 pub conversion-cases : ConversionCases
 unfolding conversions-open gives expected threeOne threeTwo chartATwo conversionCases
 conversion-cases = (refl, refl)
+
+pub rewriting-cases : RewritingCases
+unfolding rewritings-open conversions-open gives expected rewritingCases
+rewriting-cases = (refl, refl)
 
 pub keeping-cases : KeepingCases
 unfolding marks-open gives expected keepingCases

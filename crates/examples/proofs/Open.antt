@@ -1,14 +1,15 @@
--- The definitions that a load, a conversion and a run go through, by groups: a proof that opens the name of a group opens all that it names.
+-- The definitions that a load, a conversion, a run and a rewriting go through, by groups: a proof that opens the name of a group opens all that it names.
 use lib.Count.{trailingZeros}
 use Rattle.boxes.specs.Bytes.{allZero}
-use Rattle.boxes.specs.Box.{operandRule, assignmentRule, decisionRule, haltRule, wellFormed}
+use Rattle.boxes.specs.Box.{operandRule, assignmentRule, decisionRule, haltRule, choiceRule, wellFormed}
 use Rattle.format.specs.Search.{firstFrom}
 use Rattle.format.specs.Block.{weighted, addend, checksum, isSealed, seal}
 use Rattle.format.specs.File.{checkRule, headerRule, placeRule, checkFile}
 use Rattle.chart.specs.Chart.{joined, tableOf, headerBody, bodyOf, fileOf}
 use Rattle.chart.specs.WriteBack.{withFile}
 use Rattle.convert.specs.Convert.{takes, checkChart, checkAfter, conversionBy, convert}
-use Rattle.operations.specs.Operation.{readBy, valueOfLeft, sum, difference, quotient, remainder, valueOfBoth, valueOf, compares}
+use Rattle.rewrite.specs.Rewrite.{copyAlike, isReplaced, choiceOf, rewrittenBox, rewritten}
+use Rattle.operations.specs.Operation.{readBy, valueOfLeft, sum, difference, quotient, remainder, valueOfBoth, valueOf, compares, chosen}
 use Rattle.marks.specs.Marks.{modeOf, union}
 use Rattle.decode.specs.Decode.{decode, boxAt, meaning}
 use Rattle.machine.specs.Act.{act}
@@ -16,13 +17,16 @@ use Rattle.machine.specs.Run.{goesOn, settle, onward, run, kept}
 use Rattle.begin.specs.Begin.{effective, firstVars, withheldMark, withheldMarks, firstMarks}
 use Rattle.calls.specs.Calls.{fileVerdict, check}
 use Rattle.runner.specs.State.{newRunner, endedWith, dropped, resumed}
+use Rattle.runner.specs.Whole.{finish, whole}
 use Rattle.runner.specs.Outcomes.{after, progressReply, says, outcomeBy, call}
 use Rattle.claims.specs.Lists.{tells, final}
+use Rattle.rewrite_claims.specs.Rewriting.{boxesRun}
 use Rattle.examples.specs.Charts.{chartA, chartB, chartC, chartD, headE, boxesE, chartE, boxesETwo, chartPair, chartChain, chartTwice, chartSum}
 use Rattle.examples.specs.Charts.{sumOne, sumTwo, differenceOne, differenceTwo, zerosOne, zerosTwo, fiveBlocks}
+use Rattle.examples.specs.Rewriting.{chartChoice, chartFork, chartForkNew, chartTurns, chartNever}
 
 unfoldable pub rules-open : Unit {0}
-unfolding allZero firstFrom weighted addend checksum isSealed checkRule operandRule assignmentRule decisionRule haltRule wellFormed headerRule placeRule checkFile
+unfolding allZero firstFrom weighted addend checksum isSealed checkRule operandRule assignmentRule decisionRule haltRule choiceRule wellFormed headerRule placeRule checkFile
 rules-open = tt
 
 unfoldable pub files-open : Unit {0}
@@ -38,7 +42,7 @@ unfolding files-open tables-open takes checkChart checkAfter conversionBy conver
 conversions-open = tt
 
 unfoldable pub values-open : Unit {0}
-unfolding decode boxAt meaning readBy valueOfLeft trailingZeros sum difference quotient remainder valueOfBoth valueOf compares
+unfolding decode boxAt meaning readBy valueOfLeft trailingZeros sum difference quotient remainder valueOfBoth valueOf compares chosen
 values-open = tt
 
 unfoldable pub marks-open : Unit {0}
@@ -56,3 +60,7 @@ begins-open = tt
 unfoldable pub runs-open : Unit {0}
 unfolding files-open tables-open boxes-open begins-open newRunner endedWith dropped resumed fileVerdict check after progressReply says outcomeBy call tells final
 runs-open = tt
+
+unfoldable pub rewritings-open : Unit {0}
+unfolding runs-open chartChoice chartFork chartForkNew chartTurns chartNever copyAlike isReplaced choiceOf rewrittenBox rewritten boxesRun finish whole
+rewritings-open = tt

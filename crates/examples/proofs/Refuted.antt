@@ -11,25 +11,26 @@ use Rattle.boxes.specs.Bytes.{at}
 use Rattle.format.specs.File.{refusal}
 use Rattle.machine.specs.Run.{Ending, valued, notice, spent}
 use Rattle.begin.specs.Begin.{limitForNone}
-use Rattle.calls.specs.Calls.{load, begin, advance, answer, writeBack}
+use Rattle.calls.specs.Calls.{load, begin, advance, answer, writeBack, rewrite}
 use Rattle.calls.proofs.Permits.{not-done}
 use Rattle.runner.specs.declared.Runner.{Runner}
 use Rattle.runner.specs.State.{newRunner}
 use Rattle.runner.specs.Whole.{Finish, finish}
 use Rattle.runner.specs.Whole as runs
-use Rattle.runner.specs.Outcomes.{chart, running, ended, ending, refused, Reply, Told, Outcome}
+use Rattle.runner.specs.Outcomes.{done, chart, running, ended, ending, refused, Reply, Told, Outcome}
 use Rattle.claims.specs.Lists.{fresh, then, begun, asked}
 use Rattle.claims.specs.Demand3.{SameLimit}
 use Rattle.claims.proofs.Branches.{clash}
 use Rattle.convert_claims.specs.Conversions.{OtherEdition}
 use Rattle.examples.specs.Charts.{block, front, halt, chartA, chartB, chartC, chartD, chartE, sumOne, sumTwo}
 use Rattle.examples.specs.Conversions.{chartATwo}
+use Rattle.examples.specs.Rewriting.{chartChoice, chartFork, chartNever}
 use Rattle.examples.specs.Refuted.{BareIsNotSecret, AnotherModeIsTold, AnotherLimitIsTold, BareAnswersMore, SmallerLimitAnswersLess}
 use Rattle.examples.specs.Refuted.{OneMore, OneLess, AdvancesPartAtTheEnd, NoLoadDuringARun, AnotherLoadIsTold}
 use Rattle.examples.specs.Refuted.{HighWaterNamesNone, SurveillanceNamesSome, HighWaterAdvancesPart, HighWaterSumEndsNothing, HighWaterCountsNoBoxes, SurveillanceTellsCounts}
 use Rattle.examples.specs.Witnesses.{justLoaded}
-use Rattle.examples.specs.Refuted.{WrittenBackIsTold, EditionsEndApart}
-use Rattle.examples.proofs.Open.{conversions-open, runs-open}
+use Rattle.examples.specs.Refuted.{WrittenBackIsTold, EditionsEndApart, RewritingIsTold, RewritingBetweenIsTold, GuardedMayLose, DrawnDoNotCount}
+use Rattle.examples.proofs.Open.{conversions-open, runs-open, rewritings-open}
 use Rattle.examples.proofs.Witnesses.{on-one-file, one-withheld, answered, conversion-is-met}
 
 -- The first reply of a list.
@@ -172,6 +173,48 @@ unfolding runs-open conversions-open chartATwo edition-told
 written-back-is-told claim =
     let lists = claim chartA chartATwo (conversion-is-met .0) newRunner newRunner refl refl (writeBack (replicate 1024 0) ∷ []) (tt, tt) in
     let e : _≡_ {A = ℕ} 2 1 = ap edition-told lists in
+    omega arith
+
+-- The reply of the second call of a list.
+second : List Told → Reply
+second [] = refused 0 0
+second (t ∷ []) = refused 0 0
+second (t ∷ u ∷ ts) = u .reply
+
+pub rewriting-is-told : RewritingIsTold
+unfolding rewritings-open conversions-open chartATwo second
+rewriting-is-told claim =
+    let lists = claim chartA chartATwo (conversion-is-met .0) newRunner newRunner refl refl (rewrite ∷ []) ((refl, not-done), tt) in
+    let e : done ≡ refused 15 0 = ap second lists in
+    clash cc
+
+no-load : (other : List ℕ) → rewrite ≡ load other → ⊥
+no-load other e = clash cc
+
+pub rewriting-between-is-told : RewritingBetweenIsTold
+unfolding rewritings-open first
+rewriting-between-is-told claim =
+    let told = claim newRunner newRunner chartFork (rewrite ∷ []) [] fresh fresh refl refl ((λ other e a. no-load other e), tt) tt 1 (inl refl) in
+    different-counts (ap first (told (7 ∷ []) (7 ∷ []) 1 (λ j e. refl) refl refl (advance limitForNone ∷ [])))
+
+pub guarded-may-lose : GuardedMayLose
+unfolding rewritings-open
+guarded-may-lose = (
+  (λ claim.
+      let loses = claim (justLoaded chartNever) (then fresh (load chartNever)) refl (7 ∷ []) 0 3 0 3 refl in
+      let e : notice 1 ≡ valued 0 = ap (λ (x : Finish). x .ending) (loses .1) in
+      clash cc),
+  (λ claim.
+      let loses = claim (justLoaded chartNever) (then fresh (load chartNever)) refl (7 ∷ []) 0 3 0 3 refl in
+      let e : notice 0 ≡ valued 0 = ap (λ (x : Finish). x .ending) (loses .1) in
+      clash cc),
+)
+
+pub drawn-do-not-count : DrawnDoNotCount
+unfolding rewritings-open
+drawn-do-not-count claim =
+    let fewer = claim (justLoaded chartChoice) (then fresh (load chartChoice)) refl (5 ∷ 5 ∷ 7 ∷ 9 ∷ []) 0 2 7 2 refl in
+    let e : _≡_ {A = ℕ} 2 1 = ap (λ (x : Finish). x .steps) (fewer .1) in
     omega arith
 
 -- The value of an ending.

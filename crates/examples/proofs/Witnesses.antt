@@ -1,4 +1,5 @@
--- The instances of demand 3: both runners have loaded one file, so they hold one chart; the rest is computation, as is the instance of a conversion. Assumes nothing.
+-- The instances of demand 3: both runners have loaded one file, so they hold one chart; the rest is computation, as are the instances of a conversion and of rewritings. Assumes
+-- nothing.
 use Prim.Native.Nat.{ℕ, zero, suc}
 use mathlib.Core.Path.{_≡_, refl, ap, sym, _∙_}
 use mathlib.Core.List.{List, [], _∷_, _++_, List·Memᴰ·head, List·Memᴰ·tail}
@@ -16,9 +17,11 @@ use Rattle.claims.specs.OneFile.{afterLoad, NoOtherChart}
 use Rattle.claims.proofs.OneFile.{reached-final, one-file-held}
 use Rattle.claims.proofs.Inputs.{none-has}
 use Rattle.examples.specs.Charts.{chartA, chartB, chartE, zerosTwo}
-use Rattle.examples.specs.Witnesses.{justLoaded, runBare, SecrecyIsMet, NoticeIsTold, SecondEditionIsMet, CountsAreHidden, AdvancesAreWhole, AnsweringIsMet, ConversionIsMet}
+use Rattle.examples.specs.Witnesses.{justLoaded, runBare, SecrecyIsMet, NoticeIsTold, SecondEditionIsMet, ChoiceIsMet, CountsAreHidden, AdvancesAreWhole, AnsweringIsMet}
+use Rattle.examples.specs.Witnesses.{ConversionIsMet, RewritingIsMet, RewritingInOrder}
 use Rattle.examples.specs.Conversions.{chartATwo}
-use Rattle.examples.proofs.Open.{conversions-open, runs-open}
+use Rattle.examples.specs.Rewriting.{chartChoice, chartFork, chartTurns}
+use Rattle.examples.proofs.Open.{conversions-open, runs-open, rewritings-open}
 
 -- Two begins on runners that have loaded one file.
 pub on-one-file : (file : List ℕ) (past past′ : List Call) (mode mode′ : ℕ) (Limits : ℕ → ℕ → Type 0) (inputs inputs′ : List ℕ) (allowed limit limit′ : ℕ)
@@ -86,6 +89,16 @@ second-edition-is-met = (
   refl,
 )
 
+pub choice-is-met : ChoiceIsMet
+unfolding rewritings-open
+choice-is-met = (
+  on-one-file chartChoice [] (runBare (1 ∷ 2 ∷ 3 ∷ 4 ∷ [])) 1 1 SameLimit (5 ∷ 5 ∷ 7 ∷ 9 ∷ []) (6 ∷ 5 ∷ 7 ∷ 9 ∷ []) 14 0 4096 refl tt (tt, (tt, tt)) refl refl refl,
+  one-withheld 14 [] refl 5 6 (5 ∷ 7 ∷ 9 ∷ []),
+  refl,
+  refl,
+  refl,
+)
+
 pub counts-are-hidden : CountsAreHidden
 unfolding runs-open
 counts-are-hidden = (
@@ -108,7 +121,7 @@ answering-is-met = (
   (tt, (tt, (tt, tt))),
   refl,
   answered (begun 2 (7 ∷ []) 0 2 (justLoaded chartE)) 5 2 refl,
-  (tt, (not-done, (not-done, (tt, (tt, (tt, (not-done, (tt, tt)))))))),
+  (tt, (not-done, (not-done, (not-done, (tt, (tt, (tt, (not-done, (tt, tt))))))))),
   refl,
 )
 
@@ -116,9 +129,20 @@ pub conversion-is-met : ConversionIsMet
 unfolding runs-open conversions-open chartATwo
 conversion-is-met = (
   record { buffer = replicate 1024 0; told = refl; front = refl },
-  (tt, (not-done, (tt, (tt, (tt, (tt, (tt, (tt, tt)))))))),
+  (tt, (refl, (not-done, (tt, (tt, (tt, (tt, (tt, (tt, tt))))))))),
   refl,
   refl,
   refl,
   refl,
 )
+
+pub rewriting-is-met : RewritingIsMet
+unfolding rewritings-open
+rewriting-is-met = (
+  (then fresh (load chartFork), refl, refl, refl, refl),
+  (then fresh (load chartTurns), refl, refl, refl, refl),
+)
+
+pub rewriting-in-order : RewritingInOrder
+unfolding rewritings-open
+rewriting-in-order = (refl, refl)

@@ -1,7 +1,7 @@
 -- A case of the tables, what the definitions give for it, and what they are to give.
 use Prim.Native.Nat.{ℕ}
 use mathlib.Core.Path.{_≡_}
-use mathlib.Core.List.{List, [], _∷_, map}
+use mathlib.Core.List.{List, [], _∷_, _++_, map}
 use mathlib.Core.Bool.{cond}
 use lib.Dec.{eqb}
 use lib.ListN.{length, replicate}
@@ -15,19 +15,23 @@ use Rattle.marks.specs.Marks.{union, setBy}
 use Rattle.marks.specs.declared.Numbers.{Numbers}
 use Rattle.machine.specs.Run.{Ending}
 use Rattle.begin.specs.Begin.{effective}
-use Rattle.calls.specs.Calls.{load, begin, advance, answer, writeBack}
+use Rattle.calls.specs.Calls.{load, begin, advance, answer, writeBack, rewrite}
 use Rattle.runner.specs.State.{newRunner}
 use Rattle.runner.specs.Outcomes.{Reply, done, chart, ended, ending, wrote, Told}
 use Rattle.claims.specs.Lists.{tells}
 
--- A file and the answer of load's input checks; a file that is loaded and written back to itself; a file and a buffer, what the converter tells and the buffer after it; a chart's file, what begin
--- is given, and the ending with its steps; an operation of an edition, its operands and its result; what a block's check adds, the block, and its check; or two numbers, whose bits are the inputs to
+-- A file and the answer of load's input checks; a file that is loaded and written back to itself, or rewritten between and written back to another; a
+-- file and a buffer, what the converter tells and the buffer after it; a chart's file, what begin
+-- is given, and the ending with its steps, of the chart or of the rewritten one; an
+-- operation of an edition, its operands and its result; what a block's check adds, the block, and its check; or two numbers, whose bits are the inputs to
 -- keep and to take, the old set, the sets read, and the new set.
 pub data Case : Type 0 where
   answers : (file : List ℕ) → Checked → Case
   returns : (file : List ℕ) → Case
+  rewrites : (file new : List ℕ) → Case
   converts : (file buffer : List ℕ) → Written → (end : List ℕ) → Case
   runs : (file : List ℕ) (mode : ℕ) (inputs : List ℕ) (allowed limit : ℕ) → Ending → (steps : ℕ) → Case
+  runsRewritten : (file : List ℕ) (mode : ℕ) (inputs : List ℕ) (allowed limit : ℕ) → Ending → (steps : ℕ) → Case
   operates : (edition op left right result : ℕ) → Case
   checks : (added : ℕ) (block : List ℕ) (check : ℕ) → Case
   sets : Numbers → (before : ℕ) (read : List ℕ) (set : ℕ) → Case
@@ -40,13 +44,16 @@ pub data Given : Type 0 where
   number : ℕ → Given
 
 -- What the definitions give: what the checks answer; what a new runner tells for load and write back into as many bytes, all 0; what the converter does; what a new runner tells for load, begin,
--- advance to the limit and answer; the operation's result; the block's check; the new set.
+-- advance to the limit and answer, or with a rewriting after the load; the operation's result; the block's check; the new set.
 unfoldable pub gives : Case → Given
 gives (answers file so) = checked (checkFile file)
 gives (returns file) = told (tells (load file ∷ writeBack (replicate (length file) 0) ∷ []) newRunner)
+gives (rewrites file new) = told (tells (load file ∷ rewrite ∷ writeBack (replicate (length file) 0) ∷ []) newRunner)
 gives (converts file buffer so end) = converted (convert file buffer)
 gives (runs file mode inputs allowed limit e steps) =
     told (tells (load file ∷ begin mode inputs allowed limit ∷ advance (effective limit) ∷ answer ∷ []) newRunner)
+gives (runsRewritten file mode inputs allowed limit e steps) =
+    told (tells (load file ∷ rewrite ∷ begin mode inputs allowed limit ∷ advance (effective limit) ∷ answer ∷ []) newRunner)
 gives (operates edition op left right result) = number (valueOf edition op 0 (readBy edition op left right))
 gives (checks added block check) = number (checksum added block)
 gives (sets numbers before read set) = number (setBy numbers before (union read))
@@ -77,9 +84,12 @@ loaded file = chart (headerOf file .inputs) (headerOf file .boxes)
 unfoldable pub expected : Case → Given
 expected (answers file so) = checked so
 expected (returns file) = told (record { reply = loaded file; buffer = [] } ∷ record { reply = wrote (length file); buffer = file } ∷ [])
+expected (rewrites file new) = told (replied (loaded file ∷ done ∷ []) ++ (record { reply = wrote (length file); buffer = new } ∷ []))
 expected (converts file buffer so end) = converted (conversion so end)
 expected (runs file mode inputs allowed limit e steps) =
     told (replied (loaded file ∷ done ∷ ended (stepsAtTheEnd mode steps) ∷ ending e steps ∷ []))
+expected (runsRewritten file mode inputs allowed limit e steps) =
+    told (replied (loaded file ∷ done ∷ done ∷ ended (stepsAtTheEnd mode steps) ∷ ending e steps ∷ []))
 expected (operates edition op left right result) = number result
 expected (checks added block check) = number check
 expected (sets numbers before read set) = number set

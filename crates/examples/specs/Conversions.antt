@@ -24,7 +24,7 @@ several =
 abbrev deciding : (edition low low′ high′ : ℕ) → List ℕ
 deciding edition low low′ high′ = block (front edition 2 2 1) low 3 ++ block (halt ++ decide 2 0 1 0 0) low′ high′
 
--- Every other operation, and every kind.
+-- Every other operation, and every kind that both editions have.
 abbrev otherBoxes : List ℕ
 otherBoxes =
     assign 31 0 0 0 1 5

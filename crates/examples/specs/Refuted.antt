@@ -1,10 +1,18 @@
 -- What does not hold: claims with one of the things that they ask for exchanged. A run of one of the charts refutes each.
 use Prim.Native.Nat.{ℕ, _+_}
 use mathlib.Core.Path.{_≡_}
+use mathlib.Core.List.{List}
 use mathlib.Core.Bool.{true, false}
+use lib.Dec.{eqb}
+use Rattle.boxes.specs.Bytes.{at, boxOf}
+use Rattle.rewrite.specs.Rewrite.{replacedAt}
 use Rattle.begin.specs.Begin.{effective}
+use Rattle.calls.specs.Calls.{load, rewrite}
 use Rattle.runner.specs.State.{isRunning}
+use Rattle.runner.specs.Outcomes.{call}
+use Rattle.rewrite_claims.specs.Rewriting.{FewerStepsBy}
 use Rattle.convert_claims.specs.Conversions.{OtherEdition, EndsAlikeWhere, TellsAlikeWhere}
+use Rattle.claims.specs.Lists.{Accepted, Along}
 use Rattle.claims.specs.Demand3.{SameLimit, Secrecy, AnswersAs}
 use Rattle.claims.specs.Runs.{AdvancesJoinWhere, NotEndedAfter, NotHighWater, CountsBoxesWhere, LimitEndsWhere}
 use Rattle.claims.specs.Charts.{AllKeepChart, WrittenLoadsWhere}
@@ -73,6 +81,23 @@ WrittenBackIsTold = TellsAlikeWhere (λ c r. Unit {0}) → ⊥
 -- That two files are of the two editions, with the same boxes, is not enough: a sum wraps in the one and not in the other, and such a chart is refused by 14.
 abbrev pub EditionsEndApart : Type 0
 EditionsEndApart = EndsAlikeWhere OtherEdition → ⊥
+
+-- A rewriting tells the edition though it is refused: 15 of chart A, and done of its converted one.
+abbrev pub RewritingIsTold : Type 0
+RewritingIsTold = TellsAlikeWhere (λ c r. (c ≡ rewrite) × (Accepted c r → ⊥)) → ⊥
+
+-- A rewriting between: that no other load is accepted is not enough. A chart of B's shape with copies ends in 4 steps, and rewritten in 3.
+abbrev pub RewritingBetweenIsTold : Type 0
+RewritingBetweenIsTold =
+    OneFileWhere (λ file past r. Along (λ c x. (other : List ℕ) → c ≡ load other → Accepted c x → ⊥) past (call (load file) r .next)) → ⊥
+
+-- 02, g, speaks of "the bare old chart": in the other modes a copy that is not made is read by the box put in, so that a value becomes a notice.
+abbrev pub GuardedMayLose : Type 0
+GuardedMayLose = (FewerStepsBy 1 (λ old new. replacedAt old) → ⊥) × (FewerStepsBy 2 (λ old new. replacedAt old) → ⊥)
+
+-- "kind 4 boxes put in by the rewriter": one that was drawn is run as often on the old chart.
+abbrev pub DrawnDoNotCount : Type 0
+DrawnDoNotCount = FewerStepsBy 0 (λ old new p. eqb (at (boxOf new p) 0) 4) → ⊥
 
 -- "high-water notices, carry 0": chart D's names no input, and under surveillance it names one.
 abbrev pub HighWaterNamesNone : Type 0

@@ -1,24 +1,28 @@
 -- Instances of demand 3 that meet all that it supposes, and what they are told: what it supposes can be met, and it speaks of something. What advances of a high-water
--- run are told. And an instance of what a chart and its converted one tell.
+-- run are told. And instances of what a chart and its converted one tell, and of a chart and its rewritten one.
 use Prim.Native.Nat.{ℕ, _-_}
 use mathlib.Core.Path.{_≡_}
 use mathlib.Core.List.{List, [], _∷_}
 use mathlib.Core.Bool.{false}
 use Rattle.chart.specs.Chart.{tableOf}
+use Rattle.rewrite.specs.Rewrite.{replacedAt}
 use Rattle.decode.specs.Decode.{flow}
 use Rattle.machine.specs.Run.{valued, notice, going, over, run}
 use Rattle.begin.specs.Begin.{effective}
-use Rattle.calls.specs.Calls.{Call, load, begin, advance, answer, abandon, writeBack}
+use Rattle.calls.specs.Calls.{Call, load, begin, advance, answer, abandon, writeBack, rewrite}
 use Rattle.runner.specs.declared.Runner.{Runner}
-use Rattle.runner.specs.State.{isRunning, newRunner, runIn}
+use Rattle.runner.specs.State.{isRunning, newRunner, runIn, flowIn}
+use Rattle.runner.specs.Whole.{startOf, whole}
 use Rattle.runner.specs.Outcomes.{Reply, done, chart, running, ended, ending, refused, call}
-use Rattle.claims.specs.Lists.{begun, tells, Along, AllContinue}
+use Rattle.claims.specs.Lists.{Reached, Accepted, begun, tells, Along, AllContinue}
 use Rattle.claims.specs.Demand3.{AllowedAlike, Begins, SameLimit, SomeAnswer}
 use Rattle.claims.specs.OneFile.{afterLoad}
 use Rattle.examples.specs.Charts.{chartA, chartB, chartE, zerosTwo}
 use Rattle.convert_claims.specs.Conversions.{ConvertsTo, TellsNoEdition}
+use Rattle.rewrite_claims.specs.Rewriting.{boxesRun}
 use Rattle.examples.specs.Cases.{replied}
 use Rattle.examples.specs.Conversions.{chartATwo}
+use Rattle.examples.specs.Rewriting.{chartChoice, chartFork, chartTurns}
 
 -- "their pasts may differ": a runner that has only loaded a file, and one that has run it bare since, to the ending.
 abbrev pub justLoaded : List ℕ → Runner
@@ -58,6 +62,17 @@ SecondEditionIsMet =
     × Replies (advance 4096 ∷ answer ∷ []) (begun 0 (8 ∷ 2 ∷ []) 1 0 (justLoaded zerosTwo)) (ended 2 ∷ ending (valued 2) 2 ∷ [])
     × Replies (advance 4096 ∷ answer ∷ []) (begun 0 (8 ∷ 5 ∷ []) 1 0 (justLoaded zerosTwo)) (ended 2 ∷ ending (valued 3) 2 ∷ [])
 
+-- And on a chart with a box of kind 4, among calls of the rewriter: input 0 is withheld, 5 on the one side and 6 on the other, by which a bare run would copy 7 or 9. The notice names
+-- input 0.
+abbrev pub ChoiceIsMet : Type 0
+ChoiceIsMet =
+    Begins 1 1 SameLimit (justLoaded chartChoice) (loadedAndRun chartChoice (1 ∷ 2 ∷ 3 ∷ 4 ∷ [])) (5 ∷ 5 ∷ 7 ∷ 9 ∷ []) (6 ∷ 5 ∷ 7 ∷ 9 ∷ []) 14 0 4096
+    × AllowedAlike 14 (5 ∷ 5 ∷ 7 ∷ 9 ∷ []) (6 ∷ 5 ∷ 7 ∷ 9 ∷ [])
+    × Replies (rewrite ∷ advance 4096 ∷ answer ∷ rewrite ∷ answer ∷ []) (begun 1 (5 ∷ 5 ∷ 7 ∷ 9 ∷ []) 14 0 (justLoaded chartChoice))
+    (refused 22 0 ∷ ended 2 ∷ ending (notice 1) 2 ∷ done ∷ refused 24 0 ∷ [])
+    × Replies (advance 4096 ∷ answer ∷ []) (begun 0 (5 ∷ 5 ∷ 7 ∷ 9 ∷ []) 14 0 (justLoaded chartChoice)) (ended 2 ∷ ending (valued 7) 2 ∷ [])
+    × Replies (advance 4096 ∷ answer ∷ []) (begun 0 (6 ∷ 5 ∷ 7 ∷ 9 ∷ []) 14 0 (justLoaded chartChoice)) (ended 2 ∷ ending (valued 9) 2 ∷ [])
+
 -- And in high-water mode: chart B with its input withheld, 0 on the one side and 4 on the other. Inside, the runs come to their notices in 3 boxes and in 4; what is
 -- told is the same on both sides, a refused advance included, and has no count.
 abbrev pub CountsAreHidden : Type 0
@@ -94,7 +109,7 @@ abbrev pub refusedFirst : List Call
 refusedFirst = advance 1 ∷ advance 2 ∷ answer ∷ []
 
 abbrev pub everyKind : List Call
-everyKind = advance 1 ∷ load chartA ∷ begin 1 [] 0 0 ∷ writeBack [] ∷ answer ∷ advance 1 ∷ abandon ∷ answer ∷ []
+everyKind = advance 1 ∷ load chartA ∷ begin 1 [] 0 0 ∷ rewrite ∷ writeBack [] ∷ answer ∷ advance 1 ∷ abandon ∷ answer ∷ []
 
 abbrev pub AnsweringIsMet : Type 0
 AnsweringIsMet =
@@ -104,15 +119,15 @@ AnsweringIsMet =
     × SomeAnswer (begun 2 (7 ∷ []) 0 2 (justLoaded chartE)) 5 2
     × AllContinue everyKind (begun 1 (7 ∷ []) 0 2 (loadedAndRun chartE (3 ∷ [])))
     × Replies everyKind (begun 1 (7 ∷ []) 0 2 (loadedAndRun chartE (3 ∷ [])))
-    (running 1 ∷ refused 22 0 ∷ refused 22 0 ∷ refused 12 0 ∷ refused 24 0 ∷ ended 2 ∷ refused 23 0 ∷ ending (valued 5) 2 ∷ [])
+    (running 1 ∷ refused 22 0 ∷ refused 22 0 ∷ refused 22 0 ∷ refused 12 0 ∷ refused 24 0 ∷ ended 2 ∷ refused 23 0 ∷ ending (valued 5) 2 ∷ [])
 
 -- 02, f: "the converted chart must end as the original does". Chart A and its converted one, loaded into a new runner and into one whose run of another chart has ended, and then
--- calls of every kind: a write back that is refused, two advances, and a load of chart E, which both hold afterwards.
+-- calls of every kind: a rewriting and a write back that are refused, two advances, and a load of chart E, which both hold afterwards.
 abbrev pub callsOfBoth : List Call
-callsOfBoth = begin 1 (7 ∷ 9 ∷ []) 2 0 ∷ writeBack [] ∷ advance 1 ∷ advance 4095 ∷ answer ∷ load chartE ∷ begin 2 (7 ∷ []) 0 0 ∷ abandon ∷ []
+callsOfBoth = begin 1 (7 ∷ 9 ∷ []) 2 0 ∷ rewrite ∷ writeBack [] ∷ advance 1 ∷ advance 4095 ∷ answer ∷ load chartE ∷ begin 2 (7 ∷ []) 0 0 ∷ abandon ∷ []
 
 abbrev pub repliesOfBoth : List Reply
-repliesOfBoth = done ∷ refused 12 0 ∷ running 1 ∷ ended 3 ∷ ending (valued 9) 3 ∷ chart 1 2 ∷ done ∷ done ∷ []
+repliesOfBoth = done ∷ refused 22 0 ∷ refused 12 0 ∷ running 1 ∷ ended 3 ∷ ending (valued 9) 3 ∷ chart 1 2 ∷ done ∷ done ∷ []
 
 abbrev pub ConversionIsMet : Type 0
 ConversionIsMet =
@@ -122,3 +137,25 @@ ConversionIsMet =
     × (isRunning (loadedAndRun chartB (4 ∷ [])) ≡ false)
     × Replies (load chartA ∷ callsOfBoth) newRunner (chart 2 3 ∷ repliesOfBoth)
     × Replies (load chartATwo ∷ callsOfBoth) (loadedAndRun chartB (4 ∷ [])) (chart 2 3 ∷ repliesOfBoth)
+
+-- 02, g: two charts that are rewritten, and a bare run of each, in which a box put in is run once, and twice. The limit of the first is the steps that its old chart takes.
+abbrev pub Saves : (file inputs : List ℕ) (limit v steps saved : ℕ) → Type 0
+Saves file inputs limit v steps saved =
+    let old = justLoaded file in
+    let new = call rewrite old .next in
+    Reached old
+    × Accepted rewrite old
+    × (whole (old .header) (old .table) 0 inputs 0 limit ≡ record { ending = valued v; steps = steps })
+    × (boxesRun (flowIn new) (replacedAt (old .table)) limit (going (startOf 0 inputs 0 limit (new .header))) ≡ saved)
+    × (whole (new .header) (new .table) 0 inputs 0 limit ≡ record { ending = valued v; steps = steps - saved })
+
+abbrev pub RewritingIsMet : Type 0
+RewritingIsMet = Saves chartFork (7 ∷ []) 4 1 4 1 × Saves chartTurns (1 ∷ []) 4096 1 10 2
+
+-- And the calls: no chart, a run under way, edition 1; done, and the ending is forgotten; a rewriting that is refused keeps it.
+abbrev pub RewritingInOrder : Type 0
+RewritingInOrder =
+    Replies (rewrite ∷ load chartA ∷ rewrite ∷ begin 0 (7 ∷ 9 ∷ []) 0 0 ∷ rewrite ∷ advance 4096 ∷ rewrite ∷ answer ∷ []) newRunner
+    (refused 21 0 ∷ chart 2 3 ∷ refused 15 0 ∷ done ∷ refused 22 0 ∷ ended 3 ∷ refused 15 0 ∷ ending (valued 9) 3 ∷ [])
+    × Replies (begin 0 (7 ∷ []) 0 0 ∷ rewrite ∷ advance 4096 ∷ answer ∷ rewrite ∷ answer ∷ rewrite ∷ []) (justLoaded chartFork)
+    (done ∷ refused 22 0 ∷ ended 4 ∷ ending (valued 1) 4 ∷ done ∷ refused 24 0 ∷ done ∷ [])

@@ -5,15 +5,15 @@ use mathlib.Core.List.{List, [], _∷_}
 use mathlib.Core.Bool.{Bool, cond}
 use lib.Bits.{bitOr, or-zero-r}
 use borrow.Author.Tests.{eq-eqb, ne-eqb}
-use Rattle.operations.specs.Operation.{readBy, valueOf, compares}
+use Rattle.operations.specs.Operation.{readBy, valueOf, compares, chosen}
 use Rattle.operations.proofs.ReadLaws.{read-map}
 use Rattle.marks.specs.Marks.{union, targetMark, numbersOf, setBy, decisionNotice, counterMark, haltNotice, namedBy}
 use Rattle.marks.specs.declared.Mode.{Mode}
 use Rattle.marks.specs.declared.Numbers.{Numbers}
 use Rattle.marks.proofs.MarkLaws.{set-by-mode}
-use Rattle.decode.specs.Decode.{meaning}
+use Rattle.decode.specs.Decode.{Box, assigns, meaning}
 use Rattle.decode.specs.declared.FlowBox.{FlowBox}
-use Rattle.decode.specs.declared.FlowBox.the-variants.{Assign, Decide, Halt}
+use Rattle.decode.specs.declared.FlowBox.the-variants.{Assign, Decide, Halt, Choose}
 use Rattle.machine.specs.Act.{entry, entries, act}
 use Rattle.machine.specs.declared.Act.the-variants.{Store, Go, Value, Notice}
 use Rattle.machine.specs.declared.Marked.{Marked}
@@ -26,6 +26,22 @@ module _ (edition : ℕ) (mode : Mode) (b : FlowBox) (vars marks : List ℕ) (co
   abbrev IsAt : Marked → ℕ → Type 0
   IsAt x v = (x .value ≡ entry vars v) × (x .mark ≡ entry marks v) × (x .mark < 2 ^ 16)
 
+  -- A box that assigns: the value that it gives of what it reads, and by the numbers of the mode the target's mark.
+  store-act : (t next m : ℕ) (reads : List ℕ) (gives : List ℕ → ℕ) (given before : Marked) (numbers : Numbers)
+      → numbers ≡ numbersOf mode
+      → meaning edition b ≡ assigns t reads gives next
+      → IsAt before t
+      → given .value ≡ gives (entries vars reads)
+      → given .mark ≡ union (entries marks reads)
+      → m ≡ setBy numbers (before .mark) (given .mark)
+      → given .mark < 2 ^ 16
+      → Store t (given .value) m next ≡ act mode (meaning edition b) vars marks counter
+  unfolding act
+  store-act t next m reads gives given before numbers s d o value read e small =
+      let mark : m ≡ targetMark mode (before .mark) (given .mark) =
+      e ∙ ap (λ (x : Numbers). setBy x (before .mark) (given .mark)) s ∙ set-by-mode mode (before .mark) (given .mark) (o .2) small in
+      sym (ap (λ (x : Box). act mode x vars marks counter) d ∙ rw (← o .1, ← value, ← read, ← mark))
+
   pub assign-act : (t op i j next k m : ℕ) (left right given before : Marked) (numbers : Numbers)
       → numbers ≡ numbersOf mode
       → b ≡ Assign t op i j next k
@@ -37,12 +53,25 @@ module _ (edition : ℕ) (mode : Mode) (b : FlowBox) (vars marks : List ℕ) (co
       → m ≡ setBy numbers (before .mark) (given .mark)
       → given .mark < 2 ^ 16
       → Store t (given .value) m next ≡ act mode (meaning edition b) vars marks counter
-  unfolding act meaning
+  unfolding meaning
   assign-act t op i j next k m left right given before numbers s d l r o g e small =
-      let mark : m ≡ targetMark mode (before .mark) (given .mark) =
-      e ∙ ap (λ (x : Numbers). setBy x (before .mark) (given .mark)) s ∙ set-by-mode mode (before .mark) (given .mark) (o .2) small in
-      sym (by-kind _ d
-      ∙ rw (read-map (entry vars) edition op i j, read-map (entry marks) edition op i j, ← l .0, ← r .0, ← l .1, ← r .1, ← o .1, ← g .0, ← g .1, ← mark))
+      store-act t next m (readBy edition op i j) (valueOf edition op k) given before numbers s (ap (meaning edition) d) o
+      (g .0 ∙ rw (read-map (entry vars) edition op i j, ← l .0, ← r .0))
+      (g .1 ∙ rw (read-map (entry marks) edition op i j, ← l .1, ← r .1))
+      e small
+
+  pub choose-act : (t c i j next x y m : ℕ) (given before : Marked) (numbers : Numbers)
+      → numbers ≡ numbersOf mode
+      → b ≡ Choose t c i j next x y
+      → IsAt before t
+      → (given .value ≡ chosen c (entries vars (i ∷ j ∷ x ∷ y ∷ [])))
+      × (given .mark ≡ union (entries marks (i ∷ j ∷ x ∷ y ∷ [])))
+      × (given .mark < 2 ^ 16)
+      → m ≡ setBy numbers (before .mark) (given .mark)
+      → Store t (given .value) m next ≡ act mode (meaning edition b) vars marks counter
+  unfolding meaning
+  choose-act t c i j next x y m given before numbers s d o g e =
+      store-act t next m (i ∷ j ∷ x ∷ y ∷ []) (chosen c) given before numbers s (ap (meaning edition) d) o (g .0) (g .1) e (g .2)
 
   both : (i j : ℕ) → union (entries marks (i ∷ j ∷ [])) ≡ bitOr (entry marks i) (entry marks j)
   unfolding union

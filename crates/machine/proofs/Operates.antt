@@ -1,10 +1,12 @@
--- What an operation gives and the union of the marks that it reads, by its number: of none, of its left operand, of both. Assumes nothing.
+-- What an operation gives and the union of the marks that it reads, by its number: of none, of its left operand, of both; and what a choice gives, and the union of its four
+-- marks. Assumes nothing.
 use Prim.Native.Nat.{ℕ}
-use mathlib.Core.Path.{_≡_, sym, _∙_}
-use mathlib.Core.Bool.{true, false}
-use lib.Bits.{bitOr, or-zero-r}
+use mathlib.Core.Path.{_≡_, ap, sym, _∙_}
+use mathlib.Core.List.{[], _∷_}
+use mathlib.Core.Bool.{Bool, true, false, cond}
+use lib.Bits.{bitOr, or-zero-r, or-comm}
 use Rattle.boxes.specs.Box.{readsLeft, readsRight}
-use Rattle.operations.specs.Operation.{readBy, valueOfLeft, valueOfBoth, valueOf}
+use Rattle.operations.specs.Operation.{readBy, valueOfLeft, valueOfBoth, valueOf, compares, chosen}
 use Rattle.marks.specs.Marks.{union}
 
 module _ (edition op constant a b l r value mark : ℕ) where
@@ -23,3 +25,14 @@ module _ (edition op constant a b l r value mark : ℕ) where
     pub gives-both : readsRight edition n ≡ true → value ≡ valueOfBoth edition n a b → mark ≡ bitOr l r → Gives
     unfolding readBy valueOf union
     gives-both right ev em = rw (e, left, right, or-zero-r) (ev, em)
+
+pub chosen-by : (comparison a b one other : ℕ) (holds : Bool)
+    → compares comparison (a ∷ b ∷ []) ≡ holds
+    → cond holds one other ≡ chosen comparison (a ∷ b ∷ one ∷ other ∷ [])
+unfolding chosen compares
+chosen-by comparison a b one other holds e = sym (ap (λ (x : Bool). cond x one other) e)
+
+pub four-marks : (a b c d a′ b′ c′ d′ : ℕ) → a ≡ a′ → b ≡ b′ → c ≡ c′ → d ≡ d′ → bitOr (bitOr (bitOr d c) b) a ≡ union (a′ ∷ b′ ∷ c′ ∷ d′ ∷ [])
+unfolding union
+four-marks a b c d a′ b′ c′ d′ ea eb ec ed =
+    rw (ea, eb, ec, ed, or-comm d′ c′, or-comm (bitOr c′ d′) b′, or-comm (bitOr b′ (bitOr c′ d′)) a′, or-zero-r)

@@ -4,11 +4,11 @@ use marks::Mode;
 use marks::Numbers;
 ghost use Prim.Native.Nat.{_^_, _<_};
 ghost use mathlib.Core.Path.{_≡_};
-ghost use mathlib.Core.Bool.{cond};
-ghost use Rattle.operations.specs.Operation.{readBy, valueOf};
+ghost use mathlib.Core.List.{[], _∷_};
+ghost use Rattle.operations.specs.Operation.{readBy, valueOf, chosen};
 ghost use Rattle.decode.specs.Decode.{meaning};
 ghost use Rattle.marks.specs.Marks.{union, numbersOf};
-ghost use Rattle.machine.specs.Act.{entry, act};
+ghost use Rattle.machine.specs.Act.{entry, entries, act};
 
 // It stores a value and a mark, it goes to a box with a counter mark, or it ends the run with a value or with a notice that names these inputs.
 pub enum Act {
@@ -79,10 +79,29 @@ fn variable<'a>(vars: &'a [u32; 32], marks: &'a [u16; 32], v: u8) -> Marked
     with_mark(vars[i], marks[i])
 }
 
-fn way(holds: bool, next: u8, other: u8) -> u8
-    ensures { λ r. ⌜ r ≡ cond holds next other ⌝ }
+// What a choice gives: the value of one variable or of the other, by the comparison, and the union of all four marks, whichever is copied.
+fn choose<'a>(
+    vars: &'a [u32; 32],
+    marks: &'a [u16; 32],
+    comparison: u8,
+    left: u8,
+    right: u8,
+    one: u8,
+    other: u8,
+) -> Marked
+    ensures { λ r.
+        ⌜ (r .value ≡ chosen comparison (entries (now (vars .entry)) (left ∷ right ∷ one ∷ other ∷ [])))
+        × (r .mark ≡ union (entries (now (marks .entry)) (left ∷ right ∷ one ∷ other ∷ [])))
+        × (r .mark < 2 ^ 16) ⌝ }
 {
-    if holds { next } else { other }
+    let left = variable(vars, marks, left);
+    let right = variable(vars, marks, right);
+    let marked = variable(vars, marks, other).mark | variable(vars, marks, one).mark;
+    let read = marked | right.mark | left.mark;
+    if operations::compare(comparison, left.value, right.value) {
+        return with_mark(variable(vars, marks, one).value, read);
+    }
+    with_mark(variable(vars, marks, other).value, read)
 }
 
 // What the box does, where the numbers are those of the mode; of others nothing is promised.
@@ -132,11 +151,17 @@ pub fn run_box<'a>(
             if stops != 0 {
                 return Act::Notice(marks::named_by(mode, stops));
             }
-            let holds = operations::compare(comparison, left.value, right.value);
-            let to = way(holds, next, other);
+            let taken = operations::compare(comparison, left.value, right.value);
             let after = marks::counter_mark(mode, counter, read);
+            // Two returns, so that the compiler branches here: the processor then goes on to a box before the variables are compared.
+            if taken {
+                return Act::Go {
+                    next,
+                    counter: after,
+                };
+            }
             Act::Go {
-                next: to,
+                next: other,
                 counter: after,
             }
         }
@@ -147,6 +172,25 @@ pub fn run_box<'a>(
                 return Act::Notice(marks::named_by(mode, ends));
             }
             Act::Value(output.value)
+        }
+        FlowBox::Choose {
+            target,
+            comparison,
+            left,
+            right,
+            next,
+            one,
+            other,
+        } => {
+            let given = choose(vars, marks, comparison, left, right, one, other);
+            let old = variable(vars, marks, target);
+            let mark = marks::set_mark(numbers, old.mark, given.mark);
+            Act::Store {
+                target,
+                value: given.value,
+                mark,
+                next,
+            }
         }
     }
 }

@@ -4,6 +4,7 @@ use mathlib.Core.List.{List, [], _∷_}
 use mathlib.Core.Bool.{Bool, false, cond}
 use lib.Count.{ones, leadingZeros, trailingZeros}
 use lib.Dec.{eqb, ltb, leb}
+use lib.ListN.{getD}
 use Rattle.boxes.specs.Box.{readsLeft, readsRight}
 
 -- What operation op reads of its left and right operand: of their numbers, their values or their marks. "0 the constant (reads nothing)";
@@ -54,8 +55,12 @@ valueOf edition op constant [] = constant
 valueOf edition op constant (a ∷ []) = valueOfLeft op a
 valueOf edition op constant (a ∷ b ∷ rest) = valueOfBoth edition op a b
 
--- "comparison (0 equal, 1 left less than right, 2 left not greater than right)", of the two values that it reads; no box has it read fewer.
+-- "comparison (0 equal, 1 left less than right, 2 left not greater than right)", of the first two values that are read; no box reads fewer.
 unfoldable pub compares : ℕ → List ℕ → Bool
 compares comparison [] = false
 compares comparison (a ∷ []) = false
 compares comparison (a ∷ b ∷ rest) = cond (eqb comparison 0) (eqb a b) (cond (eqb comparison 1) (ltb a b) (leb a b))
+
+-- 02, g: of the values of four variables, two compared and then "the variable copied if true" and the one "if false": the value of the one that is copied.
+unfoldable pub chosen : ℕ → List ℕ → ℕ
+chosen comparison values = cond (compares comparison values) (getD values 2 0) (getD values 3 0)

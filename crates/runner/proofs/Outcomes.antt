@@ -12,6 +12,7 @@ use Rattle.chart.specs.Chart.{tableOf}
 use Rattle.chart.specs.WriteBack.{fileLength, putFile}
 use Rattle.chart.proofs.Writes.{put-fits}
 use Rattle.chart.specs.declared.Written.the-variants as written
+use Rattle.rewrite.specs.Rewrite.{rewritten}
 use Rattle.marks.specs.Marks.{modeOf}
 use Rattle.machine.specs.Run.{Progress}
 use Rattle.begin.specs.Begin.{effective, firstVars, firstMarks}
@@ -95,7 +96,7 @@ module _ (m : ℕ) (r next : Runner) (told : AdvanceTold) where
       ∙ ap (outcome (outcomes.turnedAway x) []) d
       ∙ by-verdict (calls.advance m) r (Refused x) v
 
--- Abandon, answer and write back.
+-- Abandon, answer, write back and the rewriter.
 module _ (r : Runner) where
   pub abandon-refuses : (v : Verdict) → (r .state ≡ 1 → ⊥) → v ≡ refuse 23 → outcome (verdictReply v) [] r ≡ call calls.abandon r
   unfolding check verdictReply outcomeBy
@@ -140,3 +141,16 @@ module _ (r : Runner) where
       → outcome (writtenReply (written.Refused x)) buffer r ≡ call (calls.writeBack buffer) r
   unfolding writtenReply outcomeBy
   write-back-refuses v x buffer e d = by-verdict (calls.writeBack buffer) r (Refused x) (sym e ∙ d)
+
+  pub rewrite-accepts : (table : List ℕ) (next : Runner) → Done ≡ check calls.rewrite (standingOf r) → table ≡ rewritten (r .table)
+      → next ≡ idle (record { header = r .header; table = table })
+      → outcome (verdictReply Done) [] next ≡ call calls.rewrite r
+  unfolding verdictReply outcomeBy says after
+  rewrite-accepts table next v t d =
+      ap (outcome outcomes.done []) (d ∙ ap (λ (x : List ℕ). idle (record { header = r .header; table = x })) t) ∙ by-verdict calls.rewrite r Done (sym v)
+
+  pub rewrite-refuses : (v : Verdict) (x : Refusal) → v ≡ check calls.rewrite (standingOf r) → v ≡ Refused x
+      → outcome (verdictReply v) [] r ≡ call calls.rewrite r
+  unfolding verdictReply outcomeBy
+  rewrite-refuses v x e d =
+      ap (λ (y : Verdict). outcome (verdictReply y) [] r) d ∙ by-verdict calls.rewrite r (Refused x) (sym e ∙ d)

@@ -1,4 +1,4 @@
--- The six calls, by one definition: what refuses a call, and else what it tells, the lent buffer and the runner afterwards.
+-- The seven calls, by one definition: what refuses a call, and else what it tells, the lent buffer and the runner afterwards.
 use Prim.Native.Nat.{ℕ}
 use mathlib.Core.List.{List, []}
 use mathlib.Core.Bool.{cond}
@@ -7,18 +7,20 @@ use Rattle.format.specs.declared.Header.{Header}
 use Rattle.format.specs.declared.Refusal.{Refusal}
 use Rattle.chart.specs.Chart.{Chart, chartOf}
 use Rattle.chart.specs.WriteBack.{fileLength, withFile}
+use Rattle.rewrite.specs.Rewrite.{rewrittenChart}
 use Rattle.marks.specs.Marks.{modeOf, hides}
 use Rattle.marks.specs.declared.Mode.{Mode}
 use Rattle.machine.specs.Run.{Run, Ending, Progress, going, over}
 use Rattle.begin.specs.Begin.{effective}
-use Rattle.calls.specs.Calls.{Call, load, begin, advance, answer, abandon, writeBack, check}
+use Rattle.calls.specs.Calls.{Call, load, begin, advance, answer, abandon, writeBack, rewrite, check}
 use Rattle.calls.specs.declared.Verdict.{Verdict}
 use Rattle.calls.specs.declared.Verdict.the-variants.{Done, Refused}
 use Rattle.runner.specs.declared.Runner.{Runner}
 use Rattle.runner.specs.State.{chartIn, standingOf, endingIn, underWay, idle, dropped, ran, resumed}
 use Rattle.runner.specs.Whole.{startOf}
 
--- What a call replies: load "tells k and n"; "Begin and abandon tell only that they were done"; advance "tells "running" or "ended", and the
+-- What a call replies: load "tells k and n"; "Begin and abandon tell only that they were done"; the rewriter "tells only that
+-- it was done"; advance "tells "running" or "ended", and the
 -- steps so far"; answer "tells the ending: its kind, its steps and the value if there is one", and the set that a notice carries; write back "tells
 -- the file's length"; a refusal "gives its number and a detail".
 pub data Reply : Type 0 where
@@ -52,7 +54,8 @@ pub data Effect : Type 0 where
   drops : Effect
   replaces : (Chart → Chart) → Effect
 
--- Load: "The chart replaces the old one". Advance "runs m boxes". Answer: "It changes nothing." Abandon "drops the run under way".
+-- Load: "The chart replaces the old one". Advance "runs m boxes". Answer: "It changes nothing." Abandon "drops the run under way". The
+-- rewriter: "The new chart is then held".
 abbrev pub effect : Call → Effect
 effect (load file) = replaces (λ held. chartOf file)
 effect (begin mode inputs allowed limit) = begins (startOf mode inputs allowed (effective limit))
@@ -60,8 +63,9 @@ effect (advance m) = runs m
 effect answer = keeps
 effect abandon = drops
 effect (writeBack buffer) = keeps
+effect rewrite = replaces rewrittenChart
 
--- The runner after it. Begin: "An earlier ending is forgotten." Abandon: "the chart stays". Load: "an ended run is forgotten".
+-- The runner after it. Begin: "An earlier ending is forgotten." Abandon: "the chart stays". Load and the rewriter: "an ended run is forgotten".
 unfoldable pub after : Effect → Runner → Runner
 after (runs m) r = resumed (ran m r) r
 after keeps r = r
@@ -82,6 +86,7 @@ says (advance m) r = progressReply (modeOf (r .mode)) (ran m r)
 says answer r = ending (endingIn r) (r .took)
 says abandon r = done
 says (writeBack buffer) r = wrote (fileLength (r .header))
+says rewrite r = done
 
 -- The buffer lent to a call to be written, after something has been done to it. A file and inputs are lent to be read, and no byte of them changes.
 abbrev pub lentAs : (List ℕ → List ℕ) → Call → List ℕ
@@ -91,6 +96,7 @@ lentAs leave (advance m) = []
 lentAs leave answer = []
 lentAs leave abandon = []
 lentAs leave (writeBack buffer) = leave buffer
+lentAs leave rewrite = []
 
 abbrev pub lent : Call → List ℕ
 lent c = lentAs (λ buffer. buffer) c

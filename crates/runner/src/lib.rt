@@ -1,4 +1,4 @@
-// The runner and its six calls.
+// The runner and its seven calls.
 use calls::Verdict;
 use chart::Written;
 use format::Checked;
@@ -11,7 +11,7 @@ ghost use mathlib.Core.List.{[]};
 ghost use lib.Dec.{eqb};
 ghost use Rattle.format.specs.File.{refusal};
 ghost use Rattle.calls.specs.declared.Verdict.the-variants.{Done, Refused};
-ghost use Rattle.calls.specs.Calls.{load, begin, advance, answer, abandon, writeBack};
+ghost use Rattle.calls.specs.Calls.{load, begin, advance, answer, abandon, writeBack, rewrite};
 ghost use Rattle.runner.specs.State.{newRunner, dropped};
 ghost use Rattle.runner.specs.Outcomes.{outcome, turnedAway, call};
 ghost use Rattle.runner.specs.Outcomes as outcomes;
@@ -47,7 +47,7 @@ pub struct Loaded {
     pub told: LoadTold,
 }
 
-// A begin or an abandon.
+// A begin, an abandon or a rewriting.
 pub struct Changed {
     pub runner: Runner,
     pub told: Verdict,
@@ -191,6 +191,7 @@ impl Runner {
         let verdict = calls::check_advance(self.state == 1, choose(hidden, limit, 0), m);
         let mut todo = amount(verdict, m);
         let mut at = self.at;
+        let mut half = decode::first_half(at);
         let mut steps = self.steps as u32;
         let mut end: u8 = 1;
         let mut value: u32 = 0;
@@ -198,7 +199,7 @@ impl Runner {
         while 0 < todo {
             todo = todo - 1;
             steps = steps + 1;
-            let b = decode::box_at(&self.table, at);
+            let b = decode::box_at(&self.table, half);
             let edition = self.header.edition;
             let done = machine::run_box(
                 edition,
@@ -220,10 +221,12 @@ impl Runner {
                     self.vars[t] = v;
                     self.marks[t] = mark;
                     at = next;
+                    half = decode::half_of(next);
                 }
                 Act::Go { next, counter } => {
                     self.counter = counter;
                     at = next;
+                    half = decode::half_of(next);
                 }
                 Act::Value(v) => {
                     end = 2;
@@ -312,6 +315,22 @@ impl Runner {
                 Written::Length(chart::file_length(header))
             }
             Verdict::Refused(refusal) => Written::Refused(refusal),
+        }
+    }
+
+    // The chart held, rewritten, in its own place; an ended run is forgotten.
+    pub fn rewrite(mut self) -> Changed
+        ensures { λ r. ⌜ outcome (verdictReply (r .told)) [] (r .runner) ≡ call rewrite self ⌝ }
+    {
+        let header = self.header;
+        let told = calls::check_rewrite(header, self.state == 1);
+        match told {
+            Verdict::Done => {
+                rewrite::rewrite(&mut self.table);
+                let runner = self.dropped();
+                Changed { told, runner }
+            }
+            Verdict::Refused(_) => Changed { told, runner: self },
         }
     }
 }

@@ -2,7 +2,7 @@
 //
 // A call is 24 numbers: its kind, then its arguments. 0 load, 6 show a box and 7 convert: where the file starts among the lent bytes, its length, and of 6 the number of
 // the box, of 7 how many bytes of the buffer are lent; 1 begin: mode, allowed set, limit, how many inputs, and the inputs; 2 advance: the amount; 3 answer; 4 abandon; 5 write
-// back: how many bytes of the buffer are lent.
+// back: how many bytes of the buffer are lent; 8 rewrite.
 use runner::Runner;
 use told::Encoded;
 use told::kinds;
@@ -111,6 +111,12 @@ fn make(runner: Runner, files: &[u8], words: &[u32], buf: &mut [u8]) -> Turn {
             word(words, 3),
             buf,
         ),
+        8 => {
+            let rewritten = runner.rewrite();
+            let next = rewritten.runner;
+            let told = rewritten.told;
+            after(next, told::of_verdict(told), 0)
+        }
         _ => {
             let shown = chart::show_box(
                 part(files, word(words, 1), word(words, 2)),

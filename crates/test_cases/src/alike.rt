@@ -1,46 +1,20 @@
 // A chart and its converted one, each in a runner of its own: the same random calls to both, and what they tell is compared.
+use crate::made::Made;
+use crate::made::advance;
+use crate::made::begin;
+use crate::made::load;
 use crate::pair::Pair;
 use crate::text::part;
 use runner::Runner;
 use test_samples::arguments;
-use test_samples::arguments::Arguments;
 use test_samples::arguments::first_inputs;
 use test_samples::files::byte;
-use told::Encoded;
 use told::kinds;
-
-// A runner after a call, and what it told.
-struct Made {
-    runner: Runner,
-    told: Encoded,
-}
 
 struct Two {
     pair: Pair,
     original: Runner,
     converted: Runner,
-}
-
-fn after(runner: Runner, told: Encoded) -> Made {
-    Made { runner, told }
-}
-
-fn load(runner: Runner, file: &[u8]) -> Made {
-    let loading = runner.load(file);
-    let told = loading.told;
-    after(loading.runner, told::of_load(told))
-}
-
-fn begin(runner: Runner, a: Arguments, inputs: &[u32]) -> Made {
-    let begun = runner.begin(a.mode, inputs, a.allowed, a.limit);
-    let told = begun.told;
-    after(begun.runner, told::of_verdict(told))
-}
-
-fn advance(runner: Runner, m: u32) -> Made {
-    let advanced = runner.advance(m);
-    let told = advanced.told;
-    after(advanced.runner, told::of_advance(told))
 }
 
 // Both runners after one call, and what they told compared.

@@ -1,4 +1,4 @@
-// The commands of the fixed cases, one to a line: they change the chart file, make a call, or say what the last call is to tell. The file
+// The commands of the fixed cases, one to a line: they change the chart file, make a call, or say what the last call is to tell or what the file is to hold. The file
 // `stdin` has the list of them.
 use crate::pair;
 use crate::pair::Pair;
@@ -41,6 +41,12 @@ const WRITE: u32 = 0x7772;
 const SHOW: u32 = 0x7368;
 
 const CONVERT: u32 = 0x636f;
+
+const REWRITE: u32 = 0x7265;
+
+const TAKE: u32 = 0x7461;
+
+const HOLDS: u32 = 0x686f;
 
 const NEW: u32 = 0x6e65;
 
@@ -103,10 +109,20 @@ fn expect(pair: Pair, line: &[u8]) -> Pair {
     pair.expect(piece(line, 1, b'"'), told)
 }
 
-// A line that is no command counts as a difference.
-fn no_command(pair: Pair, line: &[u8]) -> Pair {
+// A line that is no command, or says what is not so, counts as a difference.
+fn wrong_line(pair: Pair, line: &[u8]) -> Pair {
     let none = told::make(kinds::DONE, 0, 0);
     pair.differ(line, none, none)
+}
+
+// The ten bytes of a place of the file are those of the line.
+fn holds(pair: Pair, line: &[u8], file: &File) -> Pair {
+    let start = files::place(number(line, 1));
+    let bytes = box_bytes(line);
+    if check::same(part(file, start, start + 10), &bytes) {
+        return pair;
+    }
+    wrong_line(pair, line)
 }
 
 fn call(pair: Pair, line: &[u8], file: &File) -> Pair {
@@ -122,9 +138,11 @@ fn call(pair: Pair, line: &[u8], file: &File) -> Pair {
         WRITE => pair.write_back(first as usize, second as usize, low(number(line, 3))),
         SHOW => pair.show(front(file, first as usize), second),
         CONVERT => pair.convert(front(file, first as usize), 7, second as usize, 9),
+        REWRITE => pair.rewrite(),
+        HOLDS => holds(pair, line, file),
         NEW => pair.renew(),
         EXPECT => expect(pair, line),
-        _ => no_command(pair, line),
+        _ => wrong_line(pair, line),
     }
 }
 
@@ -135,6 +153,9 @@ fn command(pair: Pair, line: &[u8], file: &mut File) -> Pair {
     }
     if edit(line, file) {
         return pair;
+    }
+    if letters(line) == TAKE {
+        return pair.take(file);
     }
     call(pair, line, file)
 }

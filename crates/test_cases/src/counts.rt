@@ -43,6 +43,19 @@ const CONVERTED: u32 = 59;
 // Endings of a chart and of its converted one, which are one ending.
 pub const ALIKE: u32 = 61;
 
+// Rewritings, and those of them after which another chart is held.
+pub const REWRITTEN: u32 = 62;
+
+pub const CHANGED: u32 = 63;
+
+// Bare runs of a chart and of its rewritten one that ended with one value, and those of them that took fewer steps; then runs under surveillance that ended with a notice on the
+// chart and with a value on its rewritten one.
+const BESIDE: u32 = 64;
+
+const FEWER: u32 = 65;
+
+const GAINED: u32 = 66;
+
 // Where a call is counted that told this; one that was just done is counted at `done`.
 pub fn place(t: Encoded, done: u32) -> u32 {
     let kind = t.kind;
@@ -101,4 +114,25 @@ pub fn exchanged(t: Encoded, edition: u32) -> u32 {
         return start + 1;
     }
     if t.first == 6 { start + 2 } else { 0 }
+}
+
+// Where a chart's ending and its rewritten one's are counted; nowhere that is printed, where they are of no such kind.
+pub fn beside(old: Encoded, new: Encoded, bare: bool) -> u32 {
+    if new.kind != kinds::VALUE {
+        return 0;
+    }
+    if bare & (old.kind == kinds::VALUE) {
+        return BESIDE;
+    }
+    if old.kind == kinds::NOTICE { GAINED } else { 0 }
+}
+
+// The same by the steps that they took.
+pub fn fewer(old: Encoded, new: Encoded, bare: bool) -> u32 {
+    let values = (old.kind == kinds::VALUE) & (new.kind == kinds::VALUE);
+    if bare & values & (new.second < old.second) {
+        FEWER
+    } else {
+        0
+    }
 }

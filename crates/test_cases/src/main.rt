@@ -1,10 +1,12 @@
-// Runs the cases of document 01 that are not marked (P), which standard input has, and random lists of calls, on the runner and on the second
-// interpreter; and charts beside their converted ones, on two runners. It stops at the first difference, and else says what was reached. Its functions have no
-// equations: what it prints is compared.
+// Runs the cases of document 01 that are not marked (P), and cases of document 02, which standard input has, and random lists of calls, on the runner and on the second
+// interpreter; and charts beside their converted ones and beside their rewritten ones, on two runners. It stops at the first difference, and else says what was reached. Its functions
+// have no equations: what it prints is compared.
 mod alike;
+mod beside;
 mod commands;
 mod compare;
 mod counts;
+mod made;
 mod pair;
 mod random_calls;
 mod report;
@@ -14,6 +16,7 @@ use pair::Pair;
 use test_samples::damage;
 use test_samples::files::File;
 use test_samples::files::front;
+use test_samples::random::below;
 use test_samples::random::one_in;
 
 // Where the random numbers start.
@@ -22,7 +25,7 @@ const SEED: u64 = 88172645463325252;
 // The random cases are numbered from 1, below this.
 const CASES: u32 = 100000;
 
-// A chart's file and a list of calls with it; at times the chart is run beside its converted one. The pair is often the one that the case before left.
+// A chart's file and a list of calls with it; at times the chart is run beside its converted one or its rewritten one. The pair is often the one that the case before left.
 fn random_case(pair: Pair, state: &mut u64, file: &mut File) -> Pair {
     if !pair.same {
         return pair;
@@ -34,10 +37,12 @@ fn random_case(pair: Pair, state: &mut u64, file: &mut File) -> Pair {
         state,
         front(file, drawn.length),
     );
-    if one_in(state, 4) {
-        return alike::runs(after, state, front(file, drawn.length));
+    let more = below(state, 4);
+    match more {
+        0 => alike::runs(after, state, front(file, drawn.length)),
+        1 => beside::runs(after, state, front(file, drawn.length)),
+        _ => after,
     }
-    after
 }
 
 fn random_cases(file: &mut File) -> Pair {
@@ -49,11 +54,11 @@ fn random_cases(file: &mut File) -> Pair {
     p
 }
 
-// The cases of standard input, which has room for fewer than 32,768 bytes.
+// The cases of standard input, which has room for fewer than 65,536 bytes.
 fn fixed_cases(file: &mut File) -> bool {
-    let mut text = [0u8; 32768];
+    let mut text = [0u8; 65536];
     let length = io::read_full(0, &mut text);
-    if length == 32768 {
+    if length == 65536 {
         io::write_all(1, b"standard input is too long\n");
         return false;
     }

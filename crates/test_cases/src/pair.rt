@@ -2,10 +2,13 @@
 // compared, and what was reached is counted.
 use crate::compare;
 use crate::counts;
+use crate::made;
 use crate::report;
 use crate::text::part;
 use runner::Runner;
 use test_samples::arguments;
+use test_samples::files;
+use test_samples::files::File;
 use test_samples::files::byte;
 use test_second::Model;
 use test_second::Turn;
@@ -28,7 +31,7 @@ pub struct Pair {
     calls: u32,
     exchanged: bool,
     pub same: bool,
-    pub counts: [u64; 64],
+    pub counts: [u64; 72],
 }
 
 pub fn new() -> Pair {
@@ -46,7 +49,7 @@ pub fn new() -> Pair {
         calls: 0,
         exchanged: false,
         same: true,
-        counts: [0; 64],
+        counts: [0; 72],
     }
 }
 
@@ -87,6 +90,12 @@ fn goes_back(file: &[u8], buffer: &[u8; 2640], start: usize) -> bool {
     (told.kind == kinds::WRITTEN) & check::same(part(&back, 0, length), file)
 }
 
+// What load tells of the file of the chart that a runner holds, which has so many bytes.
+fn loads_as(runner: Runner, length: usize) -> Encoded {
+    let file = compare::file_of(runner);
+    made::load(Runner::new(), part(&file, 0, length)).told
+}
+
 impl Pair {
     // The same counts, and a new runner and a new model.
     pub fn renew(mut self) -> Pair {
@@ -113,7 +122,7 @@ impl Pair {
     }
 
     fn count(mut self, place: u32) -> Pair {
-        let at = (place % 64) as usize;
+        let at = (place % 72) as usize;
         self.counts[at] = std::num::wrapping_add_u64(self.counts[at], 1);
         self
     }
@@ -262,6 +271,41 @@ impl Pair {
         )
     }
 
+    pub fn rewrite(self) -> Pair {
+        let before = self.runner;
+        let rewritten = before.rewrite();
+        let next = rewritten.runner;
+        let t = rewritten.told;
+        self.turn(
+                b"rewrite",
+                next,
+                told::of_verdict(t),
+                self.model.rewrite(),
+                counts::REWRITTEN,
+            )
+            .hold_rewritten(before)
+    }
+
+    // After a rewriting: both hold one chart, its file loads, and it is counted where it is another than before.
+    fn hold_rewritten(self, before: Runner) -> Pair {
+        let t = self.told;
+        let chart = told::make(kinds::CHART, self.inputs as u64, self.boxes);
+        if t.kind != kinds::DONE {
+            return self;
+        }
+        if !compare::model_holds(self.model, self.runner) {
+            return self.differ(b"the chart after a rewriting", t, t);
+        }
+        let loaded = loads_as(self.runner, files::length_of(self.boxes));
+        if !compare::same(loaded, chart) {
+            return self.differ(b"load after a rewriting", loaded, chart);
+        }
+        if compare::one_chart(before, self.runner) {
+            return self;
+        }
+        self.count(counts::CHANGED)
+    }
+
     // Write back into buffers filled with one byte. The part lent starts at `from`, below 40, and has `room` bytes, at most 2,600.
     pub fn write_back(self, from: usize, room: usize, byte: u8) -> Pair {
         let start = from % 40;
@@ -276,6 +320,13 @@ impl Pair {
             return pair;
         }
         pair.differ(b"buffer after write back", first, first)
+    }
+
+    // Write back, and then into the file itself.
+    pub fn take(self, file: &mut File) -> Pair {
+        let pair = self.write_back(0, 2560, 0);
+        pair.runner.write_back(&mut file[..]);
+        pair
     }
 
     // A conversion into buffers filled with one byte, as for write back. What was written is converted back, to the file.
@@ -309,6 +360,15 @@ impl Pair {
             kinds::VALUE | kinds::NOTICE | kinds::SPENT => self.count(counts::ALIKE),
             _ => self,
         }
+    }
+
+    // How runs of a chart and of its rewritten one ended. `equal` says that the chart is rewritten to itself.
+    pub fn beside(self, old: Encoded, new: Encoded, bare: bool, equal: bool) -> Pair {
+        if !compare::may_end(old, new, bare, equal) {
+            return self.differ(b"the rewritten chart", old, new);
+        }
+        self.count(counts::beside(old, new, bare))
+            .count(counts::fewer(old, new, bare))
     }
 
     // Show a box: told as the length of the part and its first byte, and the bytes are compared.

@@ -34,7 +34,7 @@ fn call(pair: Pair, state: &mut u64, file: &[u8]) -> Pair {
     if !pair.same {
         return pair;
     }
-    let kind = below(state, 32);
+    let kind = below(state, 34);
     if kind < 2 {
         return pair.load(file);
     }
@@ -55,6 +55,9 @@ fn call(pair: Pair, state: &mut u64, file: &[u8]) -> Pair {
     }
     if kind == 29 {
         return convert(pair, state, file);
+    }
+    if kind < 32 {
+        return pair.rewrite();
     }
     pair.show(file, arguments::number(state, file))
 }

@@ -72,10 +72,10 @@ pub fn difference(what: &[u8], number: u32, call: u32, first: Encoded, second: E
 
 // The numbers 1 to 24, but 11, which is the run program's, and those that no refusal has.
 fn is_refusal(i: u64) -> bool {
-    (i <= 10) | ((12 <= i) & (i <= 14)) | (20 < i)
+    (i <= 10) | ((12 <= i) & (i <= 15)) | (20 < i)
 }
 
-fn refusals(counts: &[u64; 64]) {
+fn refusals(counts: &[u64; 72]) {
     for i in 1..25 {
         if is_refusal(i) {
             fill(b"refused %: %\n", &[i, at(counts, i as usize)]);
@@ -84,7 +84,7 @@ fn refusals(counts: &[u64; 64]) {
 }
 
 // What the random cases reached.
-pub fn totals(counts: &[u64; 64]) {
+pub fn totals(counts: &[u64; 72]) {
     let all: &[u64] = counts;
     fill(
         b"runs begun: bare %, surveillance %, high-water %
@@ -103,8 +103,11 @@ two blocks exchanged in edition 1: loaded %, refused by 2 %, by 6 %
 two blocks exchanged in edition 2: loaded %, refused by 2 %, by 6 %
 files converted: from edition 1 %, from edition 2 %
 endings of a chart and of its converted one: %
+rewritings: done %, of which % changed the chart
+bare runs of a chart and of its rewritten one: ended with one value %, of which % in fewer steps
+surveillance runs of both: ended with a notice of the chart and a value of its rewritten one %
 ",
-        &all[25..62],
+        &all[25..67],
     );
     refusals(counts);
 }

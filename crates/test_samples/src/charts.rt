@@ -1,4 +1,5 @@
-// Random charts that obey the rules: of both editions and all sizes, with loops, every operation and comparison, and halts on many ways; often all boxes are alike in both editions.
+// Random charts that obey the rules: of both editions and all sizes, with loops, every kind of box, operation and comparison, and halts on many ways; often all boxes are alike in
+// both editions, and often there are many decisions between two copies, which the rewriter replaces, and near misses of such.
 use crate::files;
 use crate::files::File;
 use crate::files::low;
@@ -120,9 +121,44 @@ fn decision(state: &mut u64, k: u32, next: u8, other: u8) -> [u8; 10] {
     [2, 0, comparison, left, right, next, other, 0, 0, 0]
 }
 
+// Whether the box at a place may be of kind 4, which edition 1 lacks.
+fn may_choose(shape: Shape, p: u32) -> bool {
+    (shape.edition == 2) & (shape.alike <= p)
+}
+
+fn choice(state: &mut u64, k: u32, target: u8, comparison: u8, next: u8) -> [u8; 10] {
+    let left = operand(state, k);
+    let right = operand(state, k);
+    let if_true = operand(state, k);
+    let if_false = operand(state, k);
+    [
+        4,
+        target,
+        comparison,
+        left,
+        right,
+        next,
+        if_true,
+        if_false,
+        0,
+        0,
+    ]
+}
+
+fn random_choice(state: &mut u64, k: u32, next: u8) -> [u8; 10] {
+    let target = variable(state);
+    let comparison = low(below(state, 3));
+    choice(state, k, target, comparison, next)
+}
+
+const HALT: [u8; 10] = [3, 0, 0, 0, 0, 0, 0, 0, 0, 0];
+
 fn random_box(state: &mut u64, shape: Shape, p: u32) -> [u8; 10] {
     let kind = below(state, 16);
     let next = next_box(state, shape.boxes, p);
+    if (kind < 2) & may_choose(shape, p) {
+        return random_choice(state, shape.inputs, next);
+    }
     if kind < 11 {
         return assignment(state, shape, p, next);
     }
@@ -130,13 +166,86 @@ fn random_box(state: &mut u64, shape: Shape, p: u32) -> [u8; 10] {
         let other = next_box(state, shape.boxes, p);
         return decision(state, shape.inputs, next, other);
     }
-    [3, 0, 0, 0, 0, 0, 0, 0, 0, 0]
+    HALT
 }
 
 fn put_boxes(state: &mut u64, file: &mut File, shape: Shape) {
     for p in 0..shape.boxes {
         let b = random_box(state, shape, p);
         files::put_box(file, p, b);
+    }
+}
+
+// A next box of a fork, which is a decision and its two next boxes: a copy into a target, or by `kind` a near miss of one. A near miss has another target, next box or operation, or is
+// a decision or a choice, of comparison 1, where a copy has its operation.
+fn branch(state: &mut u64, shape: Shape, p: u32, target: u8, next: u8, kind: u32) -> [u8; 10] {
+    let k = shape.inputs;
+    let from = operand(state, k);
+    let elsewhere = next_box(state, shape.boxes, p);
+    if (kind == 4) & may_choose(shape, p) {
+        return choice(state, k, target, 1, next);
+    }
+    match kind {
+        0 => [1, variable(state), 1, from, 0, next, 0, 0, 0, 0],
+        1 => [1, target, 1, from, 0, elsewhere, 0, 0, 0, 0],
+        2 => [1, target, 9, from, 0, next, 0, 0, 0, 0],
+        3 => [2, 0, 1, from, target, next, elsewhere, 0, 0, 0],
+        _ => [1, target, 1, from, 0, next, 0, 0, 0, 0],
+    }
+}
+
+// Mostly a fork that the rewriter makes one box of. At times it goes back to its decision, to a halt, or to one box twice; its next boxes are near misses of one kind; or another
+// decision goes to them too. What is put later may fall on it.
+fn put_fork(state: &mut u64, file: &mut File, shape: Shape, p: u32) {
+    let n = shape.boxes;
+    let one = next_box(state, n, p);
+    let after = next_box(state, n, files::wide(one));
+    let other = if one_in(state, 16) { one } else { after };
+    let past = next_box(state, n, files::wide(other));
+    let next = if one_in(state, 16) { low(p) } else { past };
+    let target = variable(state);
+    let kind = below(state, 32);
+    let near = if one_in(state, 2) {
+        kind
+    } else {
+        below(state, 32)
+    };
+    let first = branch(state, shape, files::wide(one), target, next, kind);
+    let second = branch(state, shape, files::wide(other), target, next, near);
+    files::put_box(file, files::wide(one), first);
+    files::put_box(file, files::wide(other), second);
+    if one_in(state, 3) {
+        files::put_box(file, files::wide(next), HALT);
+    }
+    if one_in(state, 4) {
+        let again = decision(state, shape.inputs, other, one);
+        files::put_box(file, below(state, n), again);
+    }
+    let fork = decision(state, shape.inputs, one, other);
+    files::put_box(file, p, fork);
+}
+
+// Forks at every fourth box from the first on, and at times anywhere.
+fn put_forks(state: &mut u64, file: &mut File, shape: Shape, count: u32) {
+    for i in 0..count {
+        let anywhere = below(state, shape.boxes);
+        let fourth = 4 * (i % 64);
+        let p = if (shape.boxes <= fourth) | one_in(state, 6) {
+            anywhere
+        } else {
+            fourth
+        };
+        put_fork(state, file, shape, p);
+    }
+}
+
+// None, a few, or as many as there is room for.
+fn forks_number(state: &mut u64, n: u32) -> u32 {
+    let kind = below(state, 4);
+    match kind {
+        0 => 0,
+        1 => 1 + below(state, 3),
+        _ => n / 4,
     }
 }
 
@@ -154,7 +263,8 @@ fn alike_below(state: &mut u64, n: u32) -> u32 {
 pub fn make(state: &mut u64, file: &mut File) -> Shape {
     let n = boxes_number(state);
     let k = below(state, 17);
-    let first = below(state, n);
+    let any = below(state, n);
+    let first = if one_in(state, 2) { 0 } else { any };
     let edition = 1 + below(state, 2);
     let alike = alike_below(state, n);
     let shape = Shape {
@@ -166,6 +276,8 @@ pub fn make(state: &mut u64, file: &mut File) -> Shape {
     files::clear(file);
     files::put_header(file, edition, k, n, first);
     put_boxes(state, file, shape);
+    let forks = forks_number(state, n);
+    put_forks(state, file, shape, forks);
     files::mend(file);
     shape
 }

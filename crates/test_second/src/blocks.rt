@@ -80,6 +80,31 @@ pub fn differing(file: &[u8], blocks: u32) -> u32 {
     blocks
 }
 
+// The bytes with the check of `block` set anew, for the edition that byte 4 has.
+fn sealed(bytes: [u8; 2560], block: usize) -> [u8; 2560]
+    requires { ⌜ block < 5 ⌝ }
+{
+    let mut after = bytes;
+    let check = weighted(&bytes, block as u32);
+    let low = (check % 256) as u8;
+    let high = (check / 256 % 256) as u8;
+    let at = 512 * block + 510;
+    after[at] = low;
+    after[at + 1] = high;
+    after
+}
+
+// The bytes of a chart file with the checks that they should have. All five blocks are sealed; those
+// past the file's end are of no account.
+pub fn resealed(bytes: [u8; 2560]) -> [u8; 2560] {
+    let mut after = bytes;
+    for block in 0..5 {
+        let now = sealed(after, block);
+        after = now;
+    }
+    after
+}
+
 // Whether the bytes from `from` up to `to` are all 0.
 pub fn all_zero(file: &[u8], from: usize, to: usize) -> bool {
     for at in from..to {

@@ -1,12 +1,12 @@
 // A chart in the other edition: the boxes that it cannot have there, and its bytes as they stand there.
-ghost use Prim.Native.Nat.{_<_};
 use crate::blocks::byte;
 use crate::blocks::field;
-use crate::blocks::weighted;
+use crate::blocks::resealed;
 use crate::numbers::meaning_of;
 
 // Whether the bytes of box `number` say something else in the other edition, or nothing at all there.
-// Operations 2, 3 and 11 are those with two meanings. Kinds 2 and 3 are alike in both editions.
+// Operations 2, 3 and 11 are those with two meanings. Kinds 2 and 3 are alike in both editions; kind 4
+// is edition 2's own.
 fn differs(file: &[u8], number: u32) -> bool {
     let operation = field(file, number, 2);
     match field(file, number, 0) {
@@ -27,28 +27,10 @@ pub fn differing_box(file: &[u8], n: u32) -> u32 {
     n
 }
 
-// The bytes with the check of `block` set anew, for the edition that byte 4 now has.
-fn sealed(bytes: [u8; 2560], block: usize) -> [u8; 2560]
-    requires { ⌜ block < 5 ⌝ }
-{
-    let mut after = bytes;
-    let check = weighted(&bytes, block as u32);
-    let low = (check % 256) as u8;
-    let high = (check / 256 % 256) as u8;
-    let at = 512 * block + 510;
-    after[at] = low;
-    after[at + 1] = high;
-    after
-}
-
-// The bytes of a chart file with the other edition's number and checks. All five blocks are sealed;
-// those past the file's end are of no account.
+// The bytes of a chart file with the other edition's number and checks.
 pub fn in_other_edition(bytes: [u8; 2560]) -> [u8; 2560] {
     let mut after = bytes;
     let edition = byte(&bytes, 4);
     after[4] = if edition == 1 { 2 } else { 1 };
-    for block in 0..5 {
-        after = sealed(after, block);
-    }
-    after
+    resealed(after)
 }

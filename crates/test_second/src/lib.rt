@@ -5,13 +5,16 @@
 ghost use Prim.Native.Nat.{_≤_};
 
 mod blocks;
+mod choices;
 mod editions;
 mod machine;
 mod numbers;
 mod rules;
 
 use blocks::byte;
+use blocks::resealed;
 use blocks::start;
+use choices::rewritten;
 use editions::differing_box;
 use editions::in_other_edition;
 use machine::Run;
@@ -226,6 +229,30 @@ impl Model {
         let run = begun(vars, withheld(k, allowed), mode, first, steps);
         Turn {
             model: self.with_run(run),
+            told: counted(0, 0),
+        }
+    }
+
+    // Puts a choice in the place of each decision between two copies, and forgets an ended run.
+    pub fn rewrite(mut self) -> Turn {
+        let length = self.length;
+        let phase = self.phase;
+        let file = self.file;
+        if length == 0 {
+            return self.turned_away(21, 0);
+        }
+        if phase == 1 {
+            return self.turned_away(22, 0);
+        }
+        if byte(&file, 4) == 1 {
+            return self.turned_away(15, 0);
+        }
+        let after = resealed(rewritten(file));
+        self.file = after;
+        self.phase = 0;
+        self.carried = 0;
+        Turn {
+            model: self,
             told: counted(0, 0),
         }
     }

@@ -170,6 +170,37 @@ fn decided(mut run: Run, file: &[u8]) -> Run {
     run
 }
 
+// A choice is an assignment that reads four variables: the two compared and the two that it may copy.
+// It ends no run and leaves the counter's set.
+fn chosen(mut run: Run, file: &[u8]) -> Run {
+    let at = run.at;
+    let mode = run.mode;
+    let marks = run.marks;
+    let target = field(file, at, 1);
+    let left = field(file, at, 3);
+    let right = field(file, at, 4);
+    let if_true = field(file, at, 6);
+    let if_false = field(file, at, 7);
+    let i = (left % 32) as usize;
+    let j = (right % 32) as usize;
+    let t = (target % 32) as usize;
+    let x = run.vars[i];
+    let y = run.vars[j];
+    let source = if compares(field(file, at, 2), x, y) {
+        if_true
+    } else {
+        if_false
+    };
+    let s = (source % 32) as usize;
+    let z = run.vars[s];
+    run.vars[t] = z;
+    let read = bit(left) | bit(right) | bit(if_true) | bit(if_false);
+    let after = marks_after(mode, marks, target, read);
+    run.marks = after;
+    run.at = field(file, at, 5);
+    run
+}
+
 fn halted(run: Run) -> Run {
     let mode = run.mode;
     let marks = run.marks;
@@ -209,6 +240,7 @@ fn step(mut run: Run, file: &[u8]) -> Run {
     match field(file, at, 0) {
         1 => limited(assigned(run, file)),
         2 => limited(decided(run, file)),
+        4 => limited(chosen(run, file)),
         _ => halted(run),
     }
 }

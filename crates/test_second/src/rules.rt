@@ -100,6 +100,7 @@ fn place_holds(file: &[u8], place: u32) -> bool {
         1 => assignment_holds(file, place),
         2 => decision_holds(file, place),
         3 => all_zero(file, from + 1, to),
+        4 => choice_holds(file, place),
         _ => false,
     }
 }
@@ -136,6 +137,23 @@ fn decision_holds(file: &[u8], place: u32) -> bool {
     }
     let k = byte(file, 5);
     operand_holds(field(file, place, 3), k, true) & operand_holds(field(file, place, 4), k, true)
+}
+
+// A choice, which edition 2 alone has. It reads four variables, whichever of the last two it copies.
+fn choice_holds(file: &[u8], place: u32) -> bool {
+    let target = field(file, place, 1);
+    if (byte(file, 4) != 2) | (target < 16) | (31 < target) | (2 < field(file, place, 2)) {
+        return false;
+    }
+    let from = start(place);
+    if (byte(file, 6) <= field(file, place, 5)) | !all_zero(file, from + 8, from + 10) {
+        return false;
+    }
+    let k = byte(file, 5);
+    operand_holds(field(file, place, 3), k, true)
+        & operand_holds(field(file, place, 4), k, true)
+        & operand_holds(field(file, place, 6), k, true)
+        & operand_holds(field(file, place, 7), k, true)
 }
 
 // A field that is read names an input below `k` or a variable 16 to 31; one that is not is 0.

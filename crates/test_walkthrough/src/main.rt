@@ -1,4 +1,4 @@
-// Follows the chart of docs/WALKTHROUGH.md from its file to its answers and back to a file, and to a file of the other edition, and prints each stage.
+// Follows the chart of docs/WALKTHROUGH.md from its file to its answers and back to a file, to a file of the other edition, and to a rewritten chart, and prints each stage.
 use runner::Runner;
 use told::Encoded;
 use told::kinds;
@@ -208,24 +208,56 @@ fn write_back(runner: Runner, file: &[u8]) {
     print_buffer(file, &buffer);
 }
 
-fn check_of_boxes(bytes: &[u8; 1024]) -> u32 {
-    let all: &[u8] = bytes;
-    format::checksum(format::addend(1, 1), part(all, 512, 1024))
-}
-
-// The held chart's file with 1,000 as box 3's constant, where its sum was, and the check of block 1 made right.
-fn with_constant(runner: Runner) -> [u8; 1024] {
+// The file of the held chart, of two blocks.
+fn file_of(runner: Runner) -> [u8; 1024] {
     let mut bytes = [0u8; 1024];
     runner.write_back(&mut bytes);
+    bytes
+}
+
+fn check_of(bytes: &[u8; 1024], b: u8) -> u32 {
+    let all: &[u8] = bytes;
+    let start = 512 * ((b % 2) as usize);
+    format::checksum(format::addend(bytes[4], b), part(all, start, start + 512))
+}
+
+// The checks of both blocks made right.
+fn sealed(mut bytes: [u8; 1024]) -> [u8; 1024] {
+    let head = check_of(&bytes, 0);
+    let later = check_of(&bytes, 1);
+    bytes[510] = (head % 256) as u8;
+    bytes[511] = (head / 256 % 256) as u8;
+    bytes[1022] = (later % 256) as u8;
+    bytes[1023] = (later / 256 % 256) as u8;
+    bytes
+}
+
+// The held chart's file with 1,000 as box 3's constant, where its sum was.
+fn with_constant(runner: Runner) -> [u8; 1024] {
+    let mut bytes = file_of(runner);
     bytes[544] = 0;
     bytes[545] = 0;
     bytes[546] = 0;
     bytes[548] = 232;
     bytes[549] = 3;
-    let check = check_of_boxes(&bytes);
-    bytes[1022] = (check % 256) as u8;
-    bytes[1023] = (check / 256 % 256) as u8;
-    bytes
+    sealed(bytes)
+}
+
+// The file of edition 2 with two copies into 18 to which box 2 goes: of input 1 in box 3, and of 17 in box 7, which is new.
+fn with_copies(mut bytes: [u8; 1024]) -> [u8; 1024] {
+    bytes[6] = 8;
+    bytes[538] = 7;
+    bytes[543] = 18;
+    bytes[544] = 1;
+    bytes[545] = 1;
+    bytes[548] = 0;
+    bytes[549] = 0;
+    bytes[582] = 1;
+    bytes[583] = 18;
+    bytes[584] = 1;
+    bytes[585] = 17;
+    bytes[587] = 4;
+    sealed(bytes)
 }
 
 fn are_the_file(bytes: &[u8; 1024], file: &[u8]) -> bool {
@@ -258,13 +290,39 @@ fn print_converted(file: &[u8], converted: &[u8; 1024]) {
     yes_or_no(b"  they are the file's: ", are_the_file(&back, file));
 }
 
-fn conversions(runner: Runner, file: &[u8]) {
+// Answers the file of edition 2.
+fn conversions(runner: Runner, file: &[u8]) -> [u8; 1024] {
     let mut buffer = [0u8; 1024];
     convert(b"convert: ", file, &mut buffer);
     let constant = with_constant(runner);
     print_box(&constant, 3);
     convert(b"convert: ", &constant, &mut buffer);
     print_converted(&constant, &buffer);
+    buffer
+}
+
+fn rewrite(runner: Runner) -> Runner {
+    let rewritten = runner.rewrite();
+    let told = rewritten.told;
+    print_told(b"rewrite: ", told::of_verdict(told));
+    rewritten.runner
+}
+
+// A chart that is rewritten, and runs before and after.
+fn rewriting(converted: [u8; 1024]) {
+    let copies = with_copies(converted);
+    print_box(&copies, 2);
+    print_box(&copies, 3);
+    print_box(&copies, 7);
+    let r = load(Runner::new(), b"load: ", &copies);
+    let r = run(r, b"bare", 0, 250);
+    let r = run(r, b"surveillance", 1, 250);
+    let r = rewrite(r);
+    let choice = file_of(r);
+    print_box(&choice, 2);
+    let r = run(r, b"bare", 0, 250);
+    let r = run(r, b"surveillance", 1, 250);
+    run(r, b"surveillance", 1, 40);
 }
 
 fn main() {
@@ -275,5 +333,7 @@ fn main() {
     print_allowed();
     let runner = load(Runner::new(), b"load: ", file);
     write_back(runs(runner), file);
-    conversions(runner, file);
+    let converted = conversions(runner, file);
+    rewrite(runner);
+    rewriting(converted);
 }

@@ -44,7 +44,7 @@ pub fn of_load(told: LoadTold) -> Encoded
     }
 }
 
-// Of a begin or an abandon.
+// Of a begin, an abandon or a rewriting.
 pub fn of_verdict(told: Verdict) -> Encoded
     ensures { λ r. ⌜ r ≡ encode (verdictReply told) ⌝ }
 {

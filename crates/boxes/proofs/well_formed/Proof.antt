@@ -1,9 +1,10 @@
 -- `well_formed` goes by the kind, which is byte 0.
-use mathlib.Core.Path.{_∙_}
+use mathlib.Core.Path.{ap₂, _∙_}
+use mathlib.Core.Bool.{_&&_}
 use borrow.Author.Needs.{needs}
 use borrow.Author.Tests.{ne-eqb}
 use Rattle.boxes.specs.Box.{wellFormed}
-use Rattle.boxes.proofs.Formed.{formed-assignment, formed-decision, formed-halt}
+use Rattle.boxes.proofs.Formed.{formed-assignment, formed-decision, formed-halt, formed-choice}
 use Rattle.boxes.proofs.well_formed.Statement.{statement}
 use Rattle.boxes.proofs.well_formed.Tie as tie
 
@@ -23,6 +24,12 @@ decision-holds-requires c κs = search needs
 halt-holds-requires : tie.Need-halt-holds-requires
 halt-holds-requires c κs = search needs
 
+has-kind-requires : tie.Need-has-kind-requires
+has-kind-requires c κs = search needs
+
+choice-holds-requires : tie.Need-choice-holds-requires
+choice-holds-requires c κs = search needs
+
 returns-2 : tie.Need-returns-2
 returns-2 c = c .assignment-holds .ensures ∙ formed-assignment _ _ _ _ (c .before .before .before .if1 .left) (c .before .match .keys1)
 
@@ -30,9 +37,14 @@ returns-3 : tie.Need-returns-3
 returns-3 c = c .decision-holds .ensures ∙ formed-decision _ _ _ _ (c .before .before .before .if1 .left) (c .before .match .keys2)
 
 returns-4 : tie.Need-returns-4
-returns-4 c =
-    let r = c .before .match .rest in
-    c .halt-holds .ensures ∙ formed-halt _ _ _ _ (c .before .before .before .if1 .left) (r .0 .1) (r .1)
+returns-4 c = c .halt-holds .ensures ∙ formed-halt _ _ _ _ (c .before .before .before .if1 .left) (c .before .match .keys3)
+
+returns-5 : tie.Need-returns-5
+returns-5 c =
+    let kind = c .before .before in
+    let r = kind .match .rest in
+    ap₂ _&&_ (c .before .has-kind .ensures) (c .choice-holds .ensures)
+    ∙ formed-choice _ _ _ _ (kind .before .before .if1 .left) (r .0 .0 .1) (r .0 .1) (r .1)
 
 pub well-formed-spec : {M : Type 1} → statement M
 well-formed-spec =
@@ -43,6 +55,9 @@ well-formed-spec =
     assignment-holds-requires
     decision-holds-requires
     halt-holds-requires
+    has-kind-requires
+    choice-holds-requires
     returns-2
     returns-3
-    returns-4)
+    returns-4
+    returns-5)

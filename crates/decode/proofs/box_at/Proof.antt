@@ -1,15 +1,14 @@
 -- `box_at` branches where the definition does; each byte of the box is read where the definition reads it.
-use native.Mathlib.Omega.{arith}
 use borrow.Author.Tests.{le-leb}
 use Rattle.decode.specs.Decode.{boxAt}
-use Rattle.decode.proofs.Decoded.{assign-at, decide-at, halt-at}
+use Rattle.decode.proofs.Decoded.{past-places, in-places, assign-at, decide-at, choose-at, halt-at}
 use borrow.Author.Needs.{needs}
 use Rattle.decode.proofs.box_at.Statement.{statement}
 use Rattle.decode.proofs.box_at.Tie as tie
 
 returns : tie.Need-returns
 unfolding boxAt
-returns c = simp (le-leb 204 (c .before .args .p) (omega arith))
+returns c = λ p h. rw (le-leb 204 p (past-places p _ h (c .if1 .taken)))
 
 mul-i : tie.Need-mul-i
 mul-i c = search needs
@@ -44,79 +43,131 @@ element-copy-out-word-4 c = search needs
 word-requires : tie.Need-word-requires
 word-requires c κs = search needs
 
-add-t11 : tie.Need-add-t11
-add-t11 c = search needs
+add-t10 : tie.Need-add-t10
+add-t10 c = search needs
 
-element-copy-out-t26 : tie.Need-element-copy-out-t26
-element-copy-out-t26 c = search needs
+element-copy-out-t25 : tie.Need-element-copy-out-t25
+element-copy-out-t25 c = search needs
 
-add-t23 : tie.Need-add-t23
-add-t23 c = search needs
+add-t22 : tie.Need-add-t22
+add-t22 c = search needs
 
-element-copy-out-t22 : tie.Need-element-copy-out-t22
-element-copy-out-t22 c = search needs
+element-copy-out-t21 : tie.Need-element-copy-out-t21
+element-copy-out-t21 c = search needs
 
-add-t19 : tie.Need-add-t19
-add-t19 c = search needs
+add-t18 : tie.Need-add-t18
+add-t18 c = search needs
 
-element-copy-out-t18 : tie.Need-element-copy-out-t18
-element-copy-out-t18 c = search needs
+element-copy-out-t17 : tie.Need-element-copy-out-t17
+element-copy-out-t17 c = search needs
 
-add-t15 : tie.Need-add-t15
-add-t15 c = search needs
+add-t14 : tie.Need-add-t14
+add-t14 c = search needs
 
-element-copy-out-t14 : tie.Need-element-copy-out-t14
-element-copy-out-t14 c = search needs
+element-copy-out-t13 : tie.Need-element-copy-out-t13
+element-copy-out-t13 c = search needs
 
-add-t35 : tie.Need-add-t35
-add-t35 c = search needs
+add-t34 : tie.Need-add-t34
+add-t34 c = search needs
 
-element-copy-out-t38 : tie.Need-element-copy-out-t38
-element-copy-out-t38 c = search needs
+element-copy-out-t37 : tie.Need-element-copy-out-t37
+element-copy-out-t37 c = search needs
 
 returns-2 : tie.Need-returns-2
 returns-2 c =
     let w = c .before .before .before .before .before in
     let two = w .before .before .before .before .before in
-    assign-at _ _ (two .before .before .if1 .left) _ (two .if2 .taken) (w .word .ensures)
+    λ p h. let is = in-places p _ h (two .before .before .if1 .left) in
+    assign-at _ p (is .0) _ (is .1) _ (two .if2 .taken) (w .word .ensures)
 
-add-t39 : tie.Need-add-t39
-add-t39 c = search needs
+add-t38 : tie.Need-add-t38
+add-t38 c = search needs
 
-element-copy-out-t42 : tie.Need-element-copy-out-t42
-element-copy-out-t42 c = search needs
+element-copy-out-t41 : tie.Need-element-copy-out-t41
+element-copy-out-t41 c = search needs
 
-add-t43 : tie.Need-add-t43
-add-t43 c = search needs
+add-t42 : tie.Need-add-t42
+add-t42 c = search needs
 
-element-copy-out-t46 : tie.Need-element-copy-out-t46
-element-copy-out-t46 c = search needs
+element-copy-out-t45 : tie.Need-element-copy-out-t45
+element-copy-out-t45 c = search needs
 
-add-t47 : tie.Need-add-t47
-add-t47 c = search needs
+add-t46 : tie.Need-add-t46
+add-t46 c = search needs
 
-element-copy-out-t50 : tie.Need-element-copy-out-t50
-element-copy-out-t50 c = search needs
+element-copy-out-t49 : tie.Need-element-copy-out-t49
+element-copy-out-t49 c = search needs
 
-add-t51 : tie.Need-add-t51
-add-t51 c = search needs
+add-t50 : tie.Need-add-t50
+add-t50 c = search needs
 
-element-copy-out-t54 : tie.Need-element-copy-out-t54
-element-copy-out-t54 c = search needs
+element-copy-out-t53 : tie.Need-element-copy-out-t53
+element-copy-out-t53 c = search needs
 
-add-t55 : tie.Need-add-t55
-add-t55 c = search needs
+add-t54 : tie.Need-add-t54
+add-t54 c = search needs
 
-element-copy-out-t58 : tie.Need-element-copy-out-t58
-element-copy-out-t58 c = search needs
+element-copy-out-t57 : tie.Need-element-copy-out-t57
+element-copy-out-t57 c = search needs
 
 returns-3 : tie.Need-returns-3
 returns-3 c =
     let three = c .before .before .before .before .before in
-    decide-at _ _ (three .before .before .before .if1 .left) (three .if3 .taken)
+    λ p h. let is = in-places p _ h (three .before .before .before .if1 .left) in
+    decide-at _ p (is .0) _ (is .1) (three .if3 .taken)
+
+add-t58 : tie.Need-add-t58
+add-t58 c = search needs
+
+element-copy-out-t61 : tie.Need-element-copy-out-t61
+element-copy-out-t61 c = search needs
+
+add-t62 : tie.Need-add-t62
+add-t62 c = search needs
+
+element-copy-out-t65 : tie.Need-element-copy-out-t65
+element-copy-out-t65 c = search needs
+
+add-t66 : tie.Need-add-t66
+add-t66 c = search needs
+
+element-copy-out-t69 : tie.Need-element-copy-out-t69
+element-copy-out-t69 c = search needs
+
+add-t70 : tie.Need-add-t70
+add-t70 c = search needs
+
+element-copy-out-t73 : tie.Need-element-copy-out-t73
+element-copy-out-t73 c = search needs
+
+add-t74 : tie.Need-add-t74
+add-t74 c = search needs
+
+element-copy-out-t77 : tie.Need-element-copy-out-t77
+element-copy-out-t77 c = search needs
+
+add-t78 : tie.Need-add-t78
+add-t78 c = search needs
+
+element-copy-out-t81 : tie.Need-element-copy-out-t81
+element-copy-out-t81 c = search needs
+
+add-t82 : tie.Need-add-t82
+add-t82 c = search needs
+
+element-copy-out-t85 : tie.Need-element-copy-out-t85
+element-copy-out-t85 c = search needs
 
 returns-4 : tie.Need-returns-4
-returns-4 c = halt-at _ _ (c .before .before .before .if1 .left) (c .before .if2 .left) (c .if3 .left)
+returns-4 c =
+    let four = c .before .before .before .before .before .before .before in
+    λ p h. let is = in-places p _ h (four .before .before .before .before .if1 .left) in
+    choose-at _ p (is .0) _ (is .1) (four .if4 .taken)
+
+returns-5 : tie.Need-returns-5
+returns-5 c =
+    λ p h. let is = in-places p _ h (c .before .before .before .before .if1 .left) in
+    halt-at _ p (is .0) _ (is .1) (c .before .before .if2 .left) (c .before .if3 .left) (c .if4 .left)
 
 pub box-at-spec : {M : Type 1} → statement M
 box-at-spec =
@@ -134,26 +185,41 @@ box-at-spec =
     add-word-4
     element-copy-out-word-4
     word-requires
-    add-t11
-    element-copy-out-t26
-    add-t23
-    element-copy-out-t22
-    add-t19
-    element-copy-out-t18
-    add-t15
-    element-copy-out-t14
-    add-t35
-    element-copy-out-t38
+    add-t10
+    element-copy-out-t25
+    add-t22
+    element-copy-out-t21
+    add-t18
+    element-copy-out-t17
+    add-t14
+    element-copy-out-t13
+    add-t34
+    element-copy-out-t37
     returns-2
-    add-t39
-    element-copy-out-t42
-    add-t43
-    element-copy-out-t46
-    add-t47
-    element-copy-out-t50
-    add-t51
-    element-copy-out-t54
-    add-t55
-    element-copy-out-t58
+    add-t38
+    element-copy-out-t41
+    add-t42
+    element-copy-out-t45
+    add-t46
+    element-copy-out-t49
+    add-t50
+    element-copy-out-t53
+    add-t54
+    element-copy-out-t57
     returns-3
-    returns-4)
+    add-t58
+    element-copy-out-t61
+    add-t62
+    element-copy-out-t65
+    add-t66
+    element-copy-out-t69
+    add-t70
+    element-copy-out-t73
+    add-t74
+    element-copy-out-t77
+    add-t78
+    element-copy-out-t81
+    add-t82
+    element-copy-out-t85
+    returns-4
+    returns-5)

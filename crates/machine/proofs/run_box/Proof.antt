@@ -1,5 +1,5 @@
 -- `run_box` branches where `act` does, and each branch returns the act of its kind, where the numbers are those of the mode.
-use Rattle.machine.proofs.Acts.{assign-act, notice-act, go-act, halt-notice-act, halt-value-act}
+use Rattle.machine.proofs.Acts.{assign-act, choose-act, notice-act, go-act, halt-notice-act, halt-value-act}
 use borrow.Author.Needs.{needs}
 use Rattle.machine.proofs.run_box.Statement.{statement}
 use Rattle.machine.proofs.run_box.Tie as tie
@@ -47,11 +47,16 @@ returns c e =
 compare-requires : tie.Need-compare-requires
 compare-requires c κs = search needs
 
-way-requires : tie.Need-way-requires
-way-requires c κs = search needs
-
 counter-mark-requires : tie.Need-counter-mark-requires
 counter-mark-requires c κs = search needs
+
+returns-2 : tie.Need-returns-2
+returns-2 c e =
+    let marked = c .before in
+    let tested = marked .before .before in
+    let read = tested .before .before .before .before in
+    go-act _ _ _ _ _ _ _ _ _ _ _ _ _ _ (read .before .before .before .b2 .given .1) (read .before .variable4 .ensures) (read .variable5 .ensures)
+    (tested .before .decision-notice .ensures) _ _ _ (tested .if1 .left) (marked .counter-mark .ensures) (marked .before .compare .ensures) (rw (c .if2 .taken))
 
 enum-told : tie.Need-enum-told
 enum-told c = search needs
@@ -65,30 +70,48 @@ halt-notice-requires c κs = search needs
 named-by-requires-2 : tie.Need-named-by-requires-2
 named-by-requires-2 c κs = search needs
 
-returns-2 : tie.Need-returns-2
-returns-2 c e =
-    let noticed = c .before .before in
-    halt-notice-act _ _ _ _ _ _ _ _ (noticed .before .before .enum-told .given .1) (noticed .before .variable6 .ensures) (noticed .halt-notice .ensures) _
-    (c .before .if2 .taken) (c .named-by2 .ensures)
-
 returns-3 : tie.Need-returns-3
 returns-3 c e =
+    let noticed = c .before .before in
+    halt-notice-act _ _ _ _ _ _ _ _ (noticed .before .before .enum-told .given .1) (noticed .before .variable6 .ensures) (noticed .halt-notice .ensures) _
+    (c .before .if3 .taken) (c .named-by2 .ensures)
+
+enum-known-b-3 : tie.Need-enum-known-b-3
+enum-known-b-3 c = search needs
+
+choose-requires : tie.Need-choose-requires
+choose-requires c κs = search needs
+
+variable-requires-7 : tie.Need-variable-requires-7
+variable-requires-7 c κs = search needs
+
+set-mark-requires-2 : tie.Need-set-mark-requires-2
+set-mark-requires-2 c κs = search needs
+
+returns-4 : tie.Need-returns-4
+returns-4 c e =
     let given = c .before .before in
     assign-act _ _ _ _ _ _ _ _ _ _ _ _ _ _ _ _ _ _ e (given .before .before .before .before .b .given .1)
     (given .before .before .variable .ensures) (given .before .variable2 .ensures) (c .before .variable3 .ensures) (given .operate .ensures) (c .set-mark .ensures)
     (search needs)
 
-returns-4 : tie.Need-returns-4
-returns-4 c e =
-    let tested = c .before .before .before in
-    let read = tested .before .before .before .before in
-    go-act _ _ _ _ _ _ _ _ _ _ _ _ _ _ (read .before .before .before .b2 .given .1) (read .before .variable4 .ensures) (read .variable5 .ensures)
-    (tested .before .decision-notice .ensures) _ _ _ (tested .if1 .left) (c .counter-mark .ensures) (c .before .before .compare .ensures) (c .before .way .ensures)
-
 returns-5 : tie.Need-returns-5
 returns-5 c e =
+    let marked = c .before in
+    let tested = marked .before .before in
+    let read = tested .before .before .before .before in
+    go-act _ _ _ _ _ _ _ _ _ _ _ _ _ _ (read .before .before .before .b2 .given .1) (read .before .variable4 .ensures) (read .variable5 .ensures)
+    (tested .before .decision-notice .ensures) _ _ _ (tested .if1 .left) (marked .counter-mark .ensures) (marked .before .compare .ensures) (rw (c .if2 .left))
+
+returns-6 : tie.Need-returns-6
+returns-6 c e =
     let noticed = c .before in
-    halt-value-act _ _ _ _ _ _ _ _ (noticed .before .before .enum-told .given .1) (noticed .before .variable6 .ensures) (noticed .halt-notice .ensures) (c .if2 .left)
+    halt-value-act _ _ _ _ _ _ _ _ (noticed .before .before .enum-told .given .1) (noticed .before .variable6 .ensures) (noticed .halt-notice .ensures) (c .if3 .left)
+
+returns-7 : tie.Need-returns-7
+returns-7 c e =
+    let given = c .before .before in
+    choose-act _ _ _ _ _ _ _ _ _ _ _ _ _ _ _ _ _ e (given .before .before .b3 .given .1) (c .before .variable7 .ensures) (given .choose .ensures) (c .set-mark2 .ensures)
 
 pub run-box-spec : {M : Type 1} → statement M
 run-box-spec =
@@ -107,13 +130,18 @@ run-box-spec =
     named-by-requires
     returns
     compare-requires
-    way-requires
     counter-mark-requires
+    returns-2
     enum-told
     variable-requires-6
     halt-notice-requires
     named-by-requires-2
-    returns-2
     returns-3
+    enum-known-b-3
+    choose-requires
+    variable-requires-7
+    set-mark-requires-2
     returns-4
-    returns-5)
+    returns-5
+    returns-6
+    returns-7)

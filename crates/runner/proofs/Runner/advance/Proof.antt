@@ -1,5 +1,6 @@
 -- The loop's invariant: the boxes still to run, from here, come to what the boxes asked for come to from the start; the runner differs from the one
--- at the start in what boxes store alone, no ending is met, and the numbers are those of the mode. Where the arms of a box that does not end the run meet, one law says what it left.
+-- at the start in what boxes store alone, no ending is met, the numbers are those of the mode, and `half` is half of where the box at hand begins.
+-- Where the arms of a box that does not end the run meet, one law says what it left.
 use mathlib.Core.Path.{_≡_, refl, ap, sym, _∙_}
 use mathlib.Core.Logic.{⊎-elim, inl}
 use mathlib.Core.Bool.{Bool, cond}
@@ -7,6 +8,7 @@ use Prim.Native.Nat.{_+_, _≤_, _<_, _^_}
 use native.Mathlib.Omega.{arith}
 use borrow.Author.Needs.{needs}
 use Rattle.marks.specs.Marks.{modeOf, numbersOf, hides}
+use Rattle.decode.specs.Decode.{HalfOf}
 use Rattle.machine.specs.Run.{valued, notice, spent, going, goesOn, settle, step, run}
 use Rattle.machine.proofs.Runs.{run-none}
 use Rattle.runner.specs.declared.Runner.{Runner}
@@ -17,7 +19,7 @@ use Rattle.runner.proofs.Runner.advance.Statement.{statement}
 use Rattle.runner.proofs.Runner.advance.Tie as tie
 
 abbrev Inv-loop : tie.InvT-loop
-Inv-loop m self₀ limit mode numbers hidden verdict todo₀ at₀ steps₀ end₀ value₀ named₀ self todo at steps end value named =
+Inv-loop m self₀ limit mode numbers hidden verdict todo₀ at₀ half₀ steps₀ end₀ value₀ named₀ self todo at half steps end value named =
     (run (flowIn self₀) todo₀ (going (runIn self₀)) ≡ run (flowIn self₀) todo (going (seen self at steps)))
     × (todo ≤ todo₀)
     × Stored self₀ self
@@ -29,60 +31,63 @@ Inv-loop m self₀ limit mode numbers hidden verdict todo₀ at₀ steps₀ end�
     × (named ≡ 0)
     × (limit < 2 ^ 16)
     × (numbers ≡ numbersOf mode)
+    × HalfOf at half
 
 abbrev μ-loop : tie.MeasureT-loop
-μ-loop m self₀ limit mode numbers hidden verdict todo₀ at₀ steps₀ end₀ value₀ named₀ self todo at steps end value named = todo
+μ-loop m self₀ limit mode numbers hidden verdict todo₀ at₀ half₀ steps₀ end₀ value₀ named₀ self todo at half steps end value named = todo
 
 -- Where the arms of a box that does not end the run meet: it goes on in what was stored.
 meets : (c : tie.At-match-came Inv-loop μ-loop) → let at-loop = c .before .before .before .before .before .before .before .before .before in
-    let l = at-loop .loop in let r = at-loop .before .before .before .before .before .before .before .args .t1 in
-    (step (flowIn r) (seen (l .self) (l .at) (l .steps)) ≡ goesOn (seen (c .match .self) (c .match .at) (l .steps + 1))) × Stored r (c .match .self)
+    let l = at-loop .loop in let r = at-loop .before .before .before .before .before .before .before .before .args .t1 in
+    (step (flowIn r) (seen (l .self) (l .at) (l .steps)) ≡ goesOn (seen (c .match .self) (c .match .at) (l .steps + 1))) × Stored r (c .match .self) × HalfOf (c .match .at) (c .match .half)
 unfolding settle
 meets c =
     let at-loop = c .before .before .before .before .before .before .before .before .before in
     let l = at-loop .loop in
-    let r = at-loop .before .before .before .before .before .before .before .args .t1 in
+    let r = at-loop .before .before .before .before .before .before .before .before .args .t1 in
     let stored = l .inv .2 in
     let box = c .before .before .before .before .before .box-at in
     let done = c .before .run-box in
-    let does = acts (l .self) r _ _ (l .at) (l .steps) (box .result) (done .result) stored (ap (λ (x : Runner). x .header .edition) stored) (l .inv .4) (box .ensures) (done .ensures (l .inv .10)) in
+    let does = acts (l .self) r _ _ (l .at) (l .steps) (box .result) (done .result) stored (ap (λ (x : Runner). x .header .edition) stored) (l .inv .4) (box .ensures (l .at) (l .inv .11)) (done .ensures (l .inv .10)) in
     ⊎-elim
     (λ w. (
-      left (flowIn r) (l .self) (c .match .self) (l .at) (l .steps) _ _ _ _ (c .match .at) (w .3) (w .4) (does _ (w .1 .given .1)),
-      stored-more r (l .self) _ _ _ _ stored (w .3),
+      left (flowIn r) (l .self) (c .match .self) (l .at) (l .steps) _ _ _ _ (c .match .at) (w .4) (w .5) (does _ (w .1 .given .1)),
+      stored-more r (l .self) _ _ _ _ stored (w .4),
+      rw (w .5, w .6) (w .3 .ensures),
     ))
     (λ w. (
-      left (flowIn r) (l .self) (c .match .self) (l .at) (l .steps) _ _ _ _ (c .match .at) (w .3) (w .4) (does _ (w .1 .given .1)),
-      stored-more r (l .self) _ _ _ _ stored (w .3),
+      left (flowIn r) (l .self) (c .match .self) (l .at) (l .steps) _ _ _ _ (c .match .at) (w .4) (w .5) (does _ (w .1 .given .1)),
+      stored-more r (l .self) _ _ _ _ stored (w .4),
+      rw (w .5, w .6) (w .3 .ensures),
     ))
     (c .match .came)
 
 -- Where the loop is left: no box is to run, a halt gives a value, a decision or a halt a notice, or the limit is reached.
-over : (c : tie.Left-loop Inv-loop μ-loop) → let q = c .loop-test in let a = c .before .before .before .before .before .before .before .before .args in
-    CameTo (flowIn (a .t1)) (c .before .before .amount .result) (runIn (a .t1)) (q .self) (q .at) (q .end) (q .value) (q .named) (q .steps) × Stored (a .t1) (q .self)
+over : (c : tie.Left-loop Inv-loop μ-loop) → let q = c .loop-test in let a = c .before .before .before .before .before .before .before .before .before .args in
+    CameTo (flowIn (a .t1)) (c .before .before .before .amount .result) (runIn (a .t1)) (q .self) (q .at) (q .end) (q .value) (q .named) (q .steps) × Stored (a .t1) (q .self)
 unfolding settle
 over c =
     let l = c .before .loop in
     let q = c .loop-test in
-    let r = c .before .before .before .before .before .before .before .before .args .t1 in
+    let r = c .before .before .before .before .before .before .before .before .before .args .t1 in
     let stored = l .inv .2 in
     ⊎-elim
     (λ w. (
-      inl (w .5 ∙ l .inv .6, omega arith, l .inv .0 ∙ run-none _ _ _ (w .0 .left) ∙ rw (w .1, w .3, w .4) refl),
+      inl (w .6 ∙ l .inv .6, omega arith, l .inv .0 ∙ run-none _ _ _ (w .0 .left) ∙ rw (w .1, w .3, w .5) refl),
       rw (w .1) stored,
     ))
     (⊎-elim
     (λ w. (
       came-over _ _ (l .todo) _ _ (l .inv .0) (w .0 .taken) (valued _) (q .self) (q .at) (q .end) (q .value) (q .named) (q .steps)
-          (acts (l .self) r _ _ (l .at) (l .steps) (w .3 .result) (w .7 .result) stored (ap (λ (x : Runner). x .header .edition) stored) (l .inv .4) (w .3 .ensures) (w .7 .ensures (l .inv .10)) _ (w .9 .given .1))
-          (w .15) (w .16) (w .17 ∙ l .inv .8) (w .14),
+          (acts (l .self) r _ _ (l .at) (l .steps) (w .3 .result) (w .7 .result) stored (ap (λ (x : Runner). x .header .edition) stored) (l .inv .4) (w .3 .ensures (l .at) (l .inv .11)) (w .7 .ensures (l .inv .10)) _ (w .9 .given .1))
+          (w .16) (w .17) (w .18 ∙ l .inv .8) (w .15),
       rw (w .11) stored,
     ))
     (⊎-elim
     (λ w. (
       came-over _ _ (l .todo) _ _ (l .inv .0) (w .0 .taken) (notice _) (q .self) (q .at) (q .end) (q .value) (q .named) (q .steps)
-          (acts (l .self) r _ _ (l .at) (l .steps) (w .3 .result) (w .7 .result) stored (ap (λ (x : Runner). x .header .edition) stored) (l .inv .4) (w .3 .ensures) (w .7 .ensures (l .inv .10)) _ (w .9 .given .1))
-          (w .15) (w .16 ∙ l .inv .7) (w .17) (w .14),
+          (acts (l .self) r _ _ (l .at) (l .steps) (w .3 .result) (w .7 .result) stored (ap (λ (x : Runner). x .header .edition) stored) (l .inv .4) (w .3 .ensures (l .at) (l .inv .11)) (w .7 .ensures (l .inv .10)) _ (w .9 .given .1))
+          (w .16) (w .17 ∙ l .inv .7) (w .18) (w .15),
       rw (w .11) stored,
     ))
     (λ w.
@@ -94,7 +99,7 @@ over c =
     let limit = ap (λ (x : Runner). x .limit) (at .1) in (
       came-over _ _ (l .todo) _ _ (l .inv .0) (w .0 .taken) spent (q .self) (q .at) (q .end) (q .value) (q .named) (q .steps)
           (at .0 ∙ goes-spent _ (omega (arith, w .9 .taken, l .inv .3, limit)))
-          (w .14) (w .15 ∙ l .inv .7) (w .16 ∙ l .inv .8) (w .13),
+          (w .15) (w .16 ∙ l .inv .7) (w .17 ∙ l .inv .8) (w .14),
       rw (w .10) (at .1),
     ))))
     (q .came)
@@ -120,6 +125,9 @@ check-advance-requires c κs = search needs
 amount-requires : tie.Need-amount-requires Inv-loop μ-loop
 amount-requires c κs = search needs
 
+first-half-requires : tie.Need-first-half-requires Inv-loop μ-loop
+first-half-requires c κs = search needs
+
 cast-steps : tie.Need-cast-steps Inv-loop μ-loop
 cast-steps c = search needs
 
@@ -129,13 +137,14 @@ loop-holds c = (
   omega arith,
   refl,
   refl,
-  c .before .before .before .before .before .mode-of .ensures,
+  c .before .before .before .before .before .before .mode-of .ensures,
   search needs,
   refl,
   refl,
   refl,
   search needs,
-  c .before .before .before .before .numbers-of .ensures,
+  c .before .before .before .before .before .numbers-of .ensures,
+  c .first-half .ensures,
 )
 
 sub-todo : tie.Need-sub-todo Inv-loop μ-loop
@@ -168,8 +177,14 @@ mul-self-2 c = search needs
 element-write-self-2 : tie.Need-element-write-self-2 Inv-loop μ-loop
 element-write-self-2 c = search needs
 
+half-of-requires : tie.Need-half-of-requires Inv-loop μ-loop
+half-of-requires c κs = search needs
+
 enum-known-done-2 : tie.Need-enum-known-done-2 Inv-loop μ-loop
 enum-known-done-2 c = search needs
+
+half-of-requires-2 : tie.Need-half-of-requires-2 Inv-loop μ-loop
+half-of-requires-2 c κs = search needs
 
 enum-known-done-3 : tie.Need-enum-known-done-3 Inv-loop μ-loop
 enum-known-done-3 c = search needs
@@ -197,6 +212,7 @@ loop-again c =
       l .inv .8,
       l .inv .9,
       l .inv .10,
+      at .2,
     )
 
 cast-self : tie.Need-cast-self Inv-loop μ-loop
@@ -214,11 +230,11 @@ returns : tie.Need-returns Inv-loop μ-loop
 returns c =
     let came = over (c .before .before) in
     let at-loop = c .before .before .before in
-    let verdict = at-loop .before .before .check-advance in
-    let chosen = at-loop .before .before .before .choose in
-    let hidden = at-loop .before .before .before .before .hides in
-    let mode = at-loop .before .before .before .before .before .before .mode-of in
-    let r = at-loop .before .before .before .before .before .before .before .args .t1 in
+    let verdict = at-loop .before .before .before .check-advance in
+    let chosen = at-loop .before .before .before .before .choose in
+    let hidden = at-loop .before .before .before .before .before .hides in
+    let mode = at-loop .before .before .before .before .before .before .before .mode-of in
+    let r = at-loop .before .before .before .before .before .before .before .before .args .t1 in
     let hides-as = hidden .ensures ∙ ap hides (mode .ensures) in
     let least = chosen .ensures ∙ ap (λ (b : Bool). cond b (r .limit) 0) hides-as in
     let left = c .before .before .loop-test in
@@ -226,7 +242,7 @@ returns c =
     (λ e. ⊎-elim (λ w. w .2) (λ w. absurd (w .0 .left e)) (c .before .if2 .came))
     (hidden .result) hides-as
     (λ n. ⊎-elim (λ w. absurd (n (w .0 .taken))) (λ w. w .4 ∙ ap (λ (k : Remains). endsWith (left .self) k (left .value)) (w .3 .ensures)) (c .before .if2 .came))
-    (verdict .result) (verdict .ensures (standingOf r) refl (sym least)) (at-loop .before .amount .ensures) (c .tell .ensures)
+    (verdict .result) (verdict .ensures (standingOf r) refl (sym least)) (at-loop .before .before .amount .ensures) (c .tell .ensures)
 
 pub advance-spec : {M : Type 1} → statement M
 advance-spec =
@@ -241,6 +257,7 @@ advance-spec =
     choose-requires
     check-advance-requires
     amount-requires
+    first-half-requires
     cast-steps
     loop-holds
     sub-todo
@@ -253,7 +270,9 @@ advance-spec =
     element-write-self
     mul-self-2
     element-write-self-2
+    half-of-requires
     enum-known-done-2
+    half-of-requires-2
     enum-known-done-3
     enum-known-done-4
     loop-less

@@ -1,15 +1,15 @@
--- `test_second::editions::in_other_edition` is safe and ends. The measure is how many blocks are left.
+-- `test_second::choices::rewritten` is safe and ends. The measure is how many boxes are left.
 -- Assumes nothing.
 use Prim.Native.Nat.{_-_}
 use borrow.Author.Needs.{needs}
-use Rattle.test_second.proofs.editions.in_other_edition.Statement.{statement}
-use Rattle.test_second.proofs.editions.in_other_edition.Tie as tie
+use Rattle.test_second.proofs.choices.rewritten.Statement.{statement}
+use Rattle.test_second.proofs.choices.rewritten.Tie as tie
 
 abbrev Inv-loop : tie.InvT-loop
-Inv-loop after₀ edition block₀ after block = Unit {0}
+Inv-loop after₀ n number₀ after number = Unit {0}
 
 abbrev μ-loop : tie.MeasureT-loop
-μ-loop after₀ edition block₀ after block = 5 - block
+μ-loop after₀ n number₀ after number = n - number
 
 slice-aggregate-byte : tie.Need-slice-aggregate-byte Inv-loop μ-loop
 slice-aggregate-byte c = search needs
@@ -17,17 +17,14 @@ slice-aggregate-byte c = search needs
 byte-requires : tie.Need-byte-requires Inv-loop μ-loop
 byte-requires c κs = search needs
 
-array-write-after : tie.Need-array-write-after Inv-loop μ-loop
-array-write-after c = search needs
-
 loop-holds : tie.Need-loop-holds Inv-loop μ-loop
 loop-holds c = search needs
 
-sealed-requires : tie.Need-sealed-requires Inv-loop μ-loop
-sealed-requires c κs = search needs
+settled-requires : tie.Need-settled-requires Inv-loop μ-loop
+settled-requires c κs = search needs
 
-add-block : tie.Need-add-block Inv-loop μ-loop
-add-block c = search needs
+add-number : tie.Need-add-number Inv-loop μ-loop
+add-number c = search needs
 
 loop-less : tie.Need-loop-less Inv-loop μ-loop
 loop-less c = search needs
@@ -38,18 +35,17 @@ loop-again c = search needs
 returns : tie.Need-returns Inv-loop μ-loop
 returns c = search needs
 
-pub in-other-edition-spec : {M : Type 1} → statement M
-in-other-edition-spec =
+pub rewritten-spec : {M : Type 1} → statement M
+rewritten-spec =
     tie.close
     (tie.spec
     Inv-loop
     μ-loop
     slice-aggregate-byte
     byte-requires
-    array-write-after
     loop-holds
-    sealed-requires
-    add-block
+    settled-requires
+    add-number
     loop-less
     loop-again
     returns)

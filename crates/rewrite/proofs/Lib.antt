@@ -1,0 +1,4 @@
+-- Laws that the proofs cite.
+pub mod Copies
+pub mod Replaced
+pub mod Halfway

@@ -1,0 +1,2 @@
+-- The rewriter.
+pub mod Rewrite

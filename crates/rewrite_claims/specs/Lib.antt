@@ -1,0 +1,2 @@
+-- What is claimed of the rewriter.
+pub mod Rewriting
