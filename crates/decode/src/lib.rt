@@ -39,7 +39,7 @@ fn word(a: u8, b: u8, c: u8, d: u8) -> u32
     (a as u32) + 256 * (b as u32) + 65536 * (c as u32) + 16777216 * (d as u32)
 }
 
-// Half of where box p begins. A run takes it along beside p: a byte is read at twice it in one instruction, where ten times p takes one more, and every box waits for it.
+// Half of where box p begins; of a number that no place has, any half past the places would do. A run takes it along beside p: a byte is read at twice it in one instruction, where ten times p takes one more, and every box waits for it.
 pub fn half_of(p: u8) -> usize
     ensures { λ r. ⌜ HalfOf p r ⌝ }
 {
