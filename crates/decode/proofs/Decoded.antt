@@ -1,8 +1,8 @@
--- What boxAt gives at a place of the table, by the kind that stands there: byte k of box p is byte i + k of the table, where i is 10 * p. And which halves are of a place. Assumes
+-- What boxAt gives at a place of the table: it decodes ten bytes of it from byte i on, where i is 10 * p (`read`), by the kind that stands there. And which halves are of a place. Assumes
 -- nothing.
 use Prim.Native.Nat.{ℕ, _+_, _*_, _≤_, _<_}
 use mathlib.Core.Path.{_≡_, ap, sym, _∙_}
-use mathlib.Core.List.{List}
+use mathlib.Core.List.{List, [], _∷_}
 use native.Mathlib.Omega.{arith}
 use lib.Dec.{ltb}
 use borrow.Author.Tests.{ltb-true, ltb-false, lt-leb, ne-eqb}
@@ -19,17 +19,13 @@ module _ (t : List ℕ) (p : ℕ) (h : p < 204) (i : ℕ) (e-i : i ≡ 10 * p) w
   kind : at (boxOf t p) 0 ≡ at t i
   kind = box-kind t p ∙ ap (at t) (sym e-i)
 
-  pub assign-at : (k : ℕ)
-      → at t i ≡ 1
-      → k ≡ word (at t (i + 6)) (at t (i + 7)) (at t (i + 8)) (at t (i + 9))
-      → Assign (at t (i + 1)) (at t (i + 2)) (at t (i + 3)) (at t (i + 4)) (at t (i + 5)) k
-      ≡ boxAt t p
+  read : boxAt t p
+      ≡ decode (at t i ∷ at t (i + 1) ∷ at t (i + 2) ∷ at t (i + 3) ∷ at t (i + 4) ∷ at t (i + 5) ∷ at t (i + 6) ∷ at t (i + 7) ∷ at t (i + 8) ∷ at t (i + 9) ∷ [])
   unfolding boxAt decode
-  assign-at k e w =
+  read =
       rw (
         lt-leb 204 p h,
         kind,
-        e,
         byte 1 (omega arith),
         byte 2 (omega arith),
         byte 3 (omega arith),
@@ -39,35 +35,29 @@ module _ (t : List ℕ) (p : ℕ) (h : p < 204) (i : ℕ) (e-i : i ≡ 10 * p) w
         byte 7 (omega arith),
         byte 8 (omega arith),
         byte 9 (omega arith),
-        w,
       )
+
+  pub assign-at : (k : ℕ)
+      → at t i ≡ 1
+      → k ≡ word (at t (i + 6)) (at t (i + 7)) (at t (i + 8)) (at t (i + 9))
+      → Assign (at t (i + 1)) (at t (i + 2)) (at t (i + 3)) (at t (i + 4)) (at t (i + 5)) k
+      ≡ boxAt t p
+  unfolding decode
+  assign-at k e w = rw (read, e, w)
 
   pub decide-at : at t i ≡ 2
       → Decide (at t (i + 2)) (at t (i + 3)) (at t (i + 4)) (at t (i + 5)) (at t (i + 6)) ≡ boxAt t p
-  unfolding boxAt decode
-  decide-at e =
-      rw (lt-leb 204 p h, kind, e, byte 2 (omega arith), byte 3 (omega arith), byte 4 (omega arith), byte 5 (omega arith), byte 6 (omega arith))
+  unfolding decode
+  decide-at e = rw (read, e)
 
   pub choose-at : at t i ≡ 4
       → Choose (at t (i + 1)) (at t (i + 2)) (at t (i + 3)) (at t (i + 4)) (at t (i + 5)) (at t (i + 6)) (at t (i + 7)) ≡ boxAt t p
-  unfolding boxAt decode
-  choose-at e =
-      rw (
-        lt-leb 204 p h,
-        kind,
-        e,
-        byte 1 (omega arith),
-        byte 2 (omega arith),
-        byte 3 (omega arith),
-        byte 4 (omega arith),
-        byte 5 (omega arith),
-        byte 6 (omega arith),
-        byte 7 (omega arith),
-      )
+  unfolding decode
+  choose-at e = rw (read, e)
 
   pub halt-at : (at t i ≡ 1 → ⊥) → (at t i ≡ 2 → ⊥) → (at t i ≡ 4 → ⊥) → Halt ≡ boxAt t p
-  unfolding boxAt decode
-  halt-at one two four = rw (lt-leb 204 p h, kind, ne-eqb _ _ one, ne-eqb _ _ two, ne-eqb _ _ four)
+  unfolding decode
+  halt-at one two four = rw (read, ne-eqb _ _ one, ne-eqb _ _ two, ne-eqb _ _ four)
 
 -- Where half of where a box begins is past the places, or not.
 module _ (p half : ℕ) (h : HalfOf p half) where
