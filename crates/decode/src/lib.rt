@@ -65,6 +65,8 @@ pub fn box_at(table: &[u8; 2040], half: usize) -> FlowBox
     }
     let i = 2 * half;
     let kind = table[i];
+    // The number of the next box is read before anything is asked, since the next box waits for it.
+    let next = table[i + 5];
     if kind == 1 {
         let constant = word(table[i + 6], table[i + 7], table[i + 8], table[i + 9]);
         return FlowBox::Assign {
@@ -72,7 +74,7 @@ pub fn box_at(table: &[u8; 2040], half: usize) -> FlowBox
             op: table[i + 2],
             left: table[i + 3],
             right: table[i + 4],
-            next: table[i + 5],
+            next,
             constant: constant,
         };
     }
@@ -81,7 +83,7 @@ pub fn box_at(table: &[u8; 2040], half: usize) -> FlowBox
             comparison: table[i + 2],
             left: table[i + 3],
             right: table[i + 4],
-            next: table[i + 5],
+            next,
             other: table[i + 6],
         };
     }
@@ -91,7 +93,7 @@ pub fn box_at(table: &[u8; 2040], half: usize) -> FlowBox
             comparison: table[i + 2],
             left: table[i + 3],
             right: table[i + 4],
-            next: table[i + 5],
+            next,
             one: table[i + 6],
             other: table[i + 7],
         };

@@ -1,4 +1,4 @@
--- The act of a box, by its kind and what the code computed of it. Assumes nothing.
+-- What is stored by the numbers of a mode, and the act of a box, by its kind and what the code computed of it. Assumes nothing.
 use Prim.Native.Nat.{ℕ, _^_, _<_}
 use mathlib.Core.Path.{_≡_, ap, sym, _∙_}
 use mathlib.Core.List.{List, [], _∷_}
@@ -15,8 +15,21 @@ use Rattle.decode.specs.Decode.{Box, assigns, meaning}
 use Rattle.decode.specs.declared.FlowBox.{FlowBox}
 use Rattle.decode.specs.declared.FlowBox.the-variants.{Assign, Decide, Halt, Choose}
 use Rattle.machine.specs.Act.{entry, entries, act}
+use Rattle.machine.specs.declared.Act.{Act}
 use Rattle.machine.specs.declared.Act.the-variants.{Store, Go, Value, Notice}
 use Rattle.machine.specs.declared.Marked.{Marked}
+
+-- By the numbers of a mode a mark is set as the mode's rule has it, where the marks are of 16 inputs.
+pub store-as-ruled : (mode : Mode) (numbers : Numbers) (t v m next old before read : ℕ)
+    → numbers ≡ numbersOf mode
+    → before ≡ old
+    → before < 2 ^ 16
+    → read < 2 ^ 16
+    → m ≡ setBy numbers before read
+    → Store t v m next ≡ Store t v (targetMark mode old read) next
+store-as-ruled mode numbers t v m next old before read s o small fits e =
+    ap (λ (x : ℕ). Store t v x next)
+    (e ∙ ap (λ (x : Numbers). setBy x before read) s ∙ set-by-mode mode before read small fits ∙ ap (λ (x : ℕ). targetMark mode x read) o)
 
 module _ (edition : ℕ) (mode : Mode) (b : FlowBox) (vars marks : List ℕ) (counter : ℕ) where
   by-kind : (x : FlowBox) → b ≡ x → act mode (meaning edition b) vars marks counter ≡ act mode (meaning edition x) vars marks counter
@@ -26,52 +39,40 @@ module _ (edition : ℕ) (mode : Mode) (b : FlowBox) (vars marks : List ℕ) (co
   abbrev IsAt : Marked → ℕ → Type 0
   IsAt x v = (x .value ≡ entry vars v) × (x .mark ≡ entry marks v) × (x .mark < 2 ^ 16)
 
-  -- A box that assigns: the value that it gives of what it reads, and by the numbers of the mode the target's mark.
-  store-act : (t next m : ℕ) (reads : List ℕ) (gives : List ℕ → ℕ) (given before : Marked) (numbers : Numbers)
-      → numbers ≡ numbersOf mode
+  -- A box that assigns: what the code stores of what it gives, by the rule of the mode.
+  store-act : (t next : ℕ) (reads : List ℕ) (gives : List ℕ → ℕ) (given : Marked) (r : Act)
       → meaning edition b ≡ assigns t reads gives next
-      → IsAt before t
       → given .value ≡ gives (entries vars reads)
       → given .mark ≡ union (entries marks reads)
-      → m ≡ setBy numbers (before .mark) (given .mark)
-      → given .mark < 2 ^ 16
-      → Store t (given .value) m next ≡ act mode (meaning edition b) vars marks counter
+      → r ≡ Store t (given .value) (targetMark mode (entry marks t) (given .mark)) next
+      → r ≡ act mode (meaning edition b) vars marks counter
   unfolding act
-  store-act t next m reads gives given before numbers s d o value read e small =
-      let mark : m ≡ targetMark mode (before .mark) (given .mark) =
-      e ∙ ap (λ (x : Numbers). setBy x (before .mark) (given .mark)) s ∙ set-by-mode mode (before .mark) (given .mark) (o .2) small in
-      sym (ap (λ (x : Box). act mode x vars marks counter) d ∙ rw (← o .1, ← value, ← read, ← mark))
+  store-act t next reads gives given r d value read e =
+      e ∙ sym (ap (λ (x : Box). act mode x vars marks counter) d ∙ rw (← value, ← read))
 
-  pub assign-act : (t op i j next k m : ℕ) (left right given before : Marked) (numbers : Numbers)
-      → numbers ≡ numbersOf mode
+  pub assign-act : (t op i j next k : ℕ) (left right given : Marked) (r : Act)
       → b ≡ Assign t op i j next k
       → IsAt left i
       → IsAt right j
-      → IsAt before t
       → (given .value ≡ valueOf edition op k (readBy edition op (left .value) (right .value)))
       × (given .mark ≡ union (readBy edition op (left .mark) (right .mark)))
-      → m ≡ setBy numbers (before .mark) (given .mark)
-      → given .mark < 2 ^ 16
-      → Store t (given .value) m next ≡ act mode (meaning edition b) vars marks counter
+      → r ≡ Store t (given .value) (targetMark mode (entry marks t) (given .mark)) next
+      → r ≡ act mode (meaning edition b) vars marks counter
   unfolding meaning
-  assign-act t op i j next k m left right given before numbers s d l r o g e small =
-      store-act t next m (readBy edition op i j) (valueOf edition op k) given before numbers s (ap (meaning edition) d) o
-      (g .0 ∙ rw (read-map (entry vars) edition op i j, ← l .0, ← r .0))
-      (g .1 ∙ rw (read-map (entry marks) edition op i j, ← l .1, ← r .1))
-      e small
+  assign-act t op i j next k left right given r d l h g e =
+      store-act t next (readBy edition op i j) (valueOf edition op k) given r (ap (meaning edition) d)
+      (g .0 ∙ rw (read-map (entry vars) edition op i j, ← l .0, ← h .0))
+      (g .1 ∙ rw (read-map (entry marks) edition op i j, ← l .1, ← h .1))
+      e
 
-  pub choose-act : (t c i j next x y m : ℕ) (given before : Marked) (numbers : Numbers)
-      → numbers ≡ numbersOf mode
+  pub choose-act : (t c i j next x y : ℕ) (given : Marked) (r : Act)
       → b ≡ Choose t c i j next x y
-      → IsAt before t
       → (given .value ≡ chosen c (entries vars (i ∷ j ∷ x ∷ y ∷ [])))
       × (given .mark ≡ union (entries marks (i ∷ j ∷ x ∷ y ∷ [])))
-      × (given .mark < 2 ^ 16)
-      → m ≡ setBy numbers (before .mark) (given .mark)
-      → Store t (given .value) m next ≡ act mode (meaning edition b) vars marks counter
+      → r ≡ Store t (given .value) (targetMark mode (entry marks t) (given .mark)) next
+      → r ≡ act mode (meaning edition b) vars marks counter
   unfolding meaning
-  choose-act t c i j next x y m given before numbers s d o g e =
-      store-act t next m (i ∷ j ∷ x ∷ y ∷ []) (chosen c) given before numbers s (ap (meaning edition) d) o (g .0) (g .1) e (g .2)
+  choose-act t c i j next x y given r d g e = store-act t next (i ∷ j ∷ x ∷ y ∷ []) (chosen c) given r (ap (meaning edition) d) (g .0) (g .1) e
 
   both : (i j : ℕ) → union (entries marks (i ∷ j ∷ [])) ≡ bitOr (entry marks i) (entry marks j)
   unfolding union

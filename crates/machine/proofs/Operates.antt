@@ -4,7 +4,7 @@ use Prim.Native.Nat.{ℕ}
 use mathlib.Core.Path.{_≡_, ap, sym, _∙_}
 use mathlib.Core.List.{[], _∷_}
 use mathlib.Core.Bool.{Bool, true, false, cond}
-use lib.Bits.{bitOr, or-zero-r, or-comm}
+use lib.Bits.{bitOr, or-zero-r}
 use Rattle.boxes.specs.Box.{readsLeft, readsRight}
 use Rattle.operations.specs.Operation.{readBy, valueOfLeft, valueOfBoth, valueOf, compares, chosen}
 use Rattle.marks.specs.Marks.{union}
@@ -32,7 +32,6 @@ pub chosen-by : (comparison a b one other : ℕ) (holds : Bool)
 unfolding chosen compares
 chosen-by comparison a b one other holds e = sym (ap (λ (x : Bool). cond x one other) e)
 
-pub four-marks : (a b c d a′ b′ c′ d′ : ℕ) → a ≡ a′ → b ≡ b′ → c ≡ c′ → d ≡ d′ → bitOr (bitOr (bitOr d c) b) a ≡ union (a′ ∷ b′ ∷ c′ ∷ d′ ∷ [])
+pub four-marks : (a b c d : ℕ) → bitOr a (bitOr b (bitOr c d)) ≡ union (a ∷ b ∷ c ∷ d ∷ [])
 unfolding union
-four-marks a b c d a′ b′ c′ d′ ea eb ec ed =
-    rw (ea, eb, ec, ed, or-comm d′ c′, or-comm (bitOr c′ d′) b′, or-comm (bitOr b′ (bitOr c′ d′)) a′, or-zero-r)
+four-marks a b c d = rw or-zero-r

@@ -7,7 +7,7 @@ ghost use mathlib.Core.Path.{_≡_};
 ghost use mathlib.Core.List.{[], _∷_};
 ghost use Rattle.operations.specs.Operation.{readBy, valueOf, chosen};
 ghost use Rattle.decode.specs.Decode.{meaning};
-ghost use Rattle.marks.specs.Marks.{union, numbersOf};
+ghost use Rattle.marks.specs.Marks.{union, targetMark, numbersOf};
 ghost use Rattle.machine.specs.Act.{entry, entries, act};
 
 // It stores a value and a mark, it goes to a box with a counter mark, or it ends the run with a value or with a notice that names these inputs.
@@ -91,17 +91,40 @@ fn choose<'a>(
 ) -> Marked
     ensures { λ r.
         ⌜ (r .value ≡ chosen comparison (entries (now (vars .entry)) (left ∷ right ∷ one ∷ other ∷ [])))
-        × (r .mark ≡ union (entries (now (marks .entry)) (left ∷ right ∷ one ∷ other ∷ [])))
-        × (r .mark < 2 ^ 16) ⌝ }
+        × (r .mark ≡ union (entries (now (marks .entry)) (left ∷ right ∷ one ∷ other ∷ []))) ⌝ }
 {
     let left = variable(vars, marks, left);
     let right = variable(vars, marks, right);
-    let marked = variable(vars, marks, other).mark | variable(vars, marks, one).mark;
-    let read = marked | right.mark | left.mark;
+    let i = (one % 32) as usize;
+    let j = (other % 32) as usize;
+    let read = left.mark | (right.mark | (marks[i] | marks[j]));
+    // Of the two values only the one that is copied is loaded.
     if operations::compare(comparison, left.value, right.value) {
-        return with_mark(variable(vars, marks, one).value, read);
+        return with_mark(vars[i], read);
     }
-    with_mark(variable(vars, marks, other).value, read)
+    with_mark(vars[j], read)
+}
+
+// What a box that assigns does, of what it gives: it stores the value, and sets its target's mark by the numbers of the mode. Of other numbers nothing is promised.
+fn store<'a>(
+    numbers: Numbers,
+    vars: &'a [u32; 32],
+    marks: &'a [u16; 32],
+    target: u8,
+    given: Marked,
+    next: u8,
+) -> Act
+    ensures { λ r.
+        ⌜ ((mode : Mode) → numbers ≡ numbersOf mode → r ≡ Act.Store target (given .value) (targetMark mode (entry (now (marks .entry)) target) (given .mark)) next) ⌝ }
+{
+    let before = variable(vars, marks, target);
+    let mark = marks::set_mark(numbers, before.mark, given.mark);
+    Act::Store {
+        target,
+        value: given.value,
+        mark,
+        next,
+    }
 }
 
 // What the box does, where the numbers are those of the mode; of others nothing is promised.
@@ -128,14 +151,7 @@ pub fn run_box<'a>(
             let left = variable(vars, marks, left);
             let right = variable(vars, marks, right);
             let given = operate(edition, op, constant, left, right);
-            let before = variable(vars, marks, target);
-            let mark = marks::set_mark(numbers, before.mark, given.mark);
-            Act::Store {
-                target,
-                value: given.value,
-                mark,
-                next,
-            }
+            store(numbers, vars, marks, target, given, next)
         }
         FlowBox::Decide {
             comparison,
@@ -183,14 +199,7 @@ pub fn run_box<'a>(
             other,
         } => {
             let given = choose(vars, marks, comparison, left, right, one, other);
-            let old = variable(vars, marks, target);
-            let mark = marks::set_mark(numbers, old.mark, given.mark);
-            Act::Store {
-                target,
-                value: given.value,
-                mark,
-                next,
-            }
+            store(numbers, vars, marks, target, given, next)
         }
     }
 }

@@ -1,4 +1,4 @@
--- `box_at` branches where the definition does; each byte of the box is read where the definition reads it.
+-- `box_at` branches where the definition does; each byte of the box is read where the definition reads it, and the number of the next box before the kind is asked for.
 use borrow.Author.Tests.{le-leb}
 use Rattle.decode.specs.Decode.{boxAt}
 use Rattle.decode.proofs.Decoded.{past-places, in-places, assign-at, decide-at, choose-at, halt-at}
@@ -15,6 +15,12 @@ mul-i c = search needs
 
 element-copy-out-kind : tie.Need-element-copy-out-kind
 element-copy-out-kind c = search needs
+
+add-next : tie.Need-add-next
+add-next c = search needs
+
+element-copy-out-next : tie.Need-element-copy-out-next
+element-copy-out-next c = search needs
 
 add-word : tie.Need-add-word
 add-word c = search needs
@@ -43,8 +49,14 @@ element-copy-out-word-4 c = search needs
 word-requires : tie.Need-word-requires
 word-requires c κs = search needs
 
-add-t10 : tie.Need-add-t10
-add-t10 c = search needs
+add-t14 : tie.Need-add-t14
+add-t14 c = search needs
+
+element-copy-out-t29 : tie.Need-element-copy-out-t29
+element-copy-out-t29 c = search needs
+
+add-t26 : tie.Need-add-t26
+add-t26 c = search needs
 
 element-copy-out-t25 : tie.Need-element-copy-out-t25
 element-copy-out-t25 c = search needs
@@ -61,23 +73,11 @@ add-t18 c = search needs
 element-copy-out-t17 : tie.Need-element-copy-out-t17
 element-copy-out-t17 c = search needs
 
-add-t14 : tie.Need-add-t14
-add-t14 c = search needs
-
-element-copy-out-t13 : tie.Need-element-copy-out-t13
-element-copy-out-t13 c = search needs
-
-add-t34 : tie.Need-add-t34
-add-t34 c = search needs
-
-element-copy-out-t37 : tie.Need-element-copy-out-t37
-element-copy-out-t37 c = search needs
-
 returns-2 : tie.Need-returns-2
 returns-2 c =
-    let w = c .before .before .before .before .before in
+    let w = c .before .before .before .before in
     let two = w .before .before .before .before .before in
-    λ p h. let is = in-places p _ h (two .before .before .if1 .left) in
+    λ p h. let is = in-places p _ h (two .before .before .before .if1 .left) in
     assign-at _ p (is .0) _ (is .1) _ (two .if2 .taken) (w .word .ensures)
 
 add-t38 : tie.Need-add-t38
@@ -104,17 +104,17 @@ add-t50 c = search needs
 element-copy-out-t53 : tie.Need-element-copy-out-t53
 element-copy-out-t53 c = search needs
 
+returns-3 : tie.Need-returns-3
+returns-3 c =
+    let three = c .before .before .before .before in
+    λ p h. let is = in-places p _ h (three .before .before .before .before .if1 .left) in
+    decide-at _ p (is .0) _ (is .1) (three .if3 .taken)
+
 add-t54 : tie.Need-add-t54
 add-t54 c = search needs
 
 element-copy-out-t57 : tie.Need-element-copy-out-t57
 element-copy-out-t57 c = search needs
-
-returns-3 : tie.Need-returns-3
-returns-3 c =
-    let three = c .before .before .before .before .before in
-    λ p h. let is = in-places p _ h (three .before .before .before .if1 .left) in
-    decide-at _ p (is .0) _ (is .1) (three .if3 .taken)
 
 add-t58 : tie.Need-add-t58
 add-t58 c = search needs
@@ -146,27 +146,15 @@ add-t74 c = search needs
 element-copy-out-t77 : tie.Need-element-copy-out-t77
 element-copy-out-t77 c = search needs
 
-add-t78 : tie.Need-add-t78
-add-t78 c = search needs
-
-element-copy-out-t81 : tie.Need-element-copy-out-t81
-element-copy-out-t81 c = search needs
-
-add-t82 : tie.Need-add-t82
-add-t82 c = search needs
-
-element-copy-out-t85 : tie.Need-element-copy-out-t85
-element-copy-out-t85 c = search needs
-
 returns-4 : tie.Need-returns-4
 returns-4 c =
-    let four = c .before .before .before .before .before .before .before in
-    λ p h. let is = in-places p _ h (four .before .before .before .before .if1 .left) in
+    let four = c .before .before .before .before .before .before in
+    λ p h. let is = in-places p _ h (four .before .before .before .before .before .if1 .left) in
     choose-at _ p (is .0) _ (is .1) (four .if4 .taken)
 
 returns-5 : tie.Need-returns-5
 returns-5 c =
-    λ p h. let is = in-places p _ h (c .before .before .before .before .if1 .left) in
+    λ p h. let is = in-places p _ h (c .before .before .before .before .before .if1 .left) in
     halt-at _ p (is .0) _ (is .1) (c .before .before .if2 .left) (c .before .if3 .left) (c .if4 .left)
 
 pub box-at-spec : {M : Type 1} → statement M
@@ -176,6 +164,8 @@ box-at-spec =
     returns
     mul-i
     element-copy-out-kind
+    add-next
+    element-copy-out-next
     add-word
     element-copy-out-word
     add-word-2
@@ -185,16 +175,14 @@ box-at-spec =
     add-word-4
     element-copy-out-word-4
     word-requires
-    add-t10
+    add-t14
+    element-copy-out-t29
+    add-t26
     element-copy-out-t25
     add-t22
     element-copy-out-t21
     add-t18
     element-copy-out-t17
-    add-t14
-    element-copy-out-t13
-    add-t34
-    element-copy-out-t37
     returns-2
     add-t38
     element-copy-out-t41
@@ -204,9 +192,9 @@ box-at-spec =
     element-copy-out-t49
     add-t50
     element-copy-out-t53
+    returns-3
     add-t54
     element-copy-out-t57
-    returns-3
     add-t58
     element-copy-out-t61
     add-t62
@@ -217,9 +205,5 @@ box-at-spec =
     element-copy-out-t73
     add-t74
     element-copy-out-t77
-    add-t78
-    element-copy-out-t81
-    add-t82
-    element-copy-out-t85
     returns-4
     returns-5)

@@ -16,20 +16,17 @@ variable-requires-2 c κs = search needs
 operate-requires : tie.Need-operate-requires
 operate-requires c κs = search needs
 
-variable-requires-3 : tie.Need-variable-requires-3
-variable-requires-3 c κs = search needs
-
-set-mark-requires : tie.Need-set-mark-requires
-set-mark-requires c κs = search needs
+store-requires : tie.Need-store-requires
+store-requires c κs = search needs
 
 enum-known-b-2 : tie.Need-enum-known-b-2
 enum-known-b-2 c = search needs
 
+variable-requires-3 : tie.Need-variable-requires-3
+variable-requires-3 c κs = search needs
+
 variable-requires-4 : tie.Need-variable-requires-4
 variable-requires-4 c κs = search needs
-
-variable-requires-5 : tie.Need-variable-requires-5
-variable-requires-5 c κs = search needs
 
 decision-notice-requires : tie.Need-decision-notice-requires
 decision-notice-requires c κs = search needs
@@ -41,7 +38,7 @@ returns : tie.Need-returns
 returns c e =
     let noticed = c .before .before in
     let read = noticed .before .before .before in
-    notice-act _ _ _ _ _ _ _ _ _ _ _ _ _ _ (read .before .before .before .b2 .given .1) (read .before .variable4 .ensures) (read .variable5 .ensures)
+    notice-act _ _ _ _ _ _ _ _ _ _ _ _ _ _ (read .before .before .before .b2 .given .1) (read .before .variable3 .ensures) (read .variable4 .ensures)
     (noticed .decision-notice .ensures) _ (c .before .if1 .taken) (c .named-by .ensures)
 
 compare-requires : tie.Need-compare-requires
@@ -55,14 +52,14 @@ returns-2 c e =
     let marked = c .before in
     let tested = marked .before .before in
     let read = tested .before .before .before .before in
-    go-act _ _ _ _ _ _ _ _ _ _ _ _ _ _ (read .before .before .before .b2 .given .1) (read .before .variable4 .ensures) (read .variable5 .ensures)
+    go-act _ _ _ _ _ _ _ _ _ _ _ _ _ _ (read .before .before .before .b2 .given .1) (read .before .variable3 .ensures) (read .variable4 .ensures)
     (tested .before .decision-notice .ensures) _ _ _ (tested .if1 .left) (marked .counter-mark .ensures) (marked .before .compare .ensures) (rw (c .if2 .taken))
 
 enum-told : tie.Need-enum-told
 enum-told c = search needs
 
-variable-requires-6 : tie.Need-variable-requires-6
-variable-requires-6 c κs = search needs
+variable-requires-5 : tie.Need-variable-requires-5
+variable-requires-5 c κs = search needs
 
 halt-notice-requires : tie.Need-halt-notice-requires
 halt-notice-requires c κs = search needs
@@ -73,7 +70,7 @@ named-by-requires-2 c κs = search needs
 returns-3 : tie.Need-returns-3
 returns-3 c e =
     let noticed = c .before .before in
-    halt-notice-act _ _ _ _ _ _ _ _ (noticed .before .before .enum-told .given .1) (noticed .before .variable6 .ensures) (noticed .halt-notice .ensures) _
+    halt-notice-act _ _ _ _ _ _ _ _ (noticed .before .before .enum-told .given .1) (noticed .before .variable5 .ensures) (noticed .halt-notice .ensures) _
     (c .before .if3 .taken) (c .named-by2 .ensures)
 
 enum-known-b-3 : tie.Need-enum-known-b-3
@@ -82,36 +79,32 @@ enum-known-b-3 c = search needs
 choose-requires : tie.Need-choose-requires
 choose-requires c κs = search needs
 
-variable-requires-7 : tie.Need-variable-requires-7
-variable-requires-7 c κs = search needs
-
-set-mark-requires-2 : tie.Need-set-mark-requires-2
-set-mark-requires-2 c κs = search needs
+store-requires-2 : tie.Need-store-requires-2
+store-requires-2 c κs = search needs
 
 returns-4 : tie.Need-returns-4
 returns-4 c e =
-    let given = c .before .before in
-    assign-act _ _ _ _ _ _ _ _ _ _ _ _ _ _ _ _ _ _ e (given .before .before .before .before .b .given .1)
-    (given .before .before .variable .ensures) (given .before .variable2 .ensures) (c .before .variable3 .ensures) (given .operate .ensures) (c .set-mark .ensures)
-    (search needs)
+    let given = c .before in
+    assign-act _ _ _ _ _ _ _ _ _ _ _ _ _ _ _ _ (given .before .before .before .before .b .given .1) (given .before .before .variable .ensures) (given .before .variable2 .ensures)
+    (given .operate .ensures) (c .store .ensures (given .before .before .before .before .before .before .args .mode) e)
 
 returns-5 : tie.Need-returns-5
 returns-5 c e =
     let marked = c .before in
     let tested = marked .before .before in
     let read = tested .before .before .before .before in
-    go-act _ _ _ _ _ _ _ _ _ _ _ _ _ _ (read .before .before .before .b2 .given .1) (read .before .variable4 .ensures) (read .variable5 .ensures)
+    go-act _ _ _ _ _ _ _ _ _ _ _ _ _ _ (read .before .before .before .b2 .given .1) (read .before .variable3 .ensures) (read .variable4 .ensures)
     (tested .before .decision-notice .ensures) _ _ _ (tested .if1 .left) (marked .counter-mark .ensures) (marked .before .compare .ensures) (rw (c .if2 .left))
 
 returns-6 : tie.Need-returns-6
 returns-6 c e =
     let noticed = c .before in
-    halt-value-act _ _ _ _ _ _ _ _ (noticed .before .before .enum-told .given .1) (noticed .before .variable6 .ensures) (noticed .halt-notice .ensures) (c .if3 .left)
+    halt-value-act _ _ _ _ _ _ _ _ (noticed .before .before .enum-told .given .1) (noticed .before .variable5 .ensures) (noticed .halt-notice .ensures) (c .if3 .left)
 
 returns-7 : tie.Need-returns-7
 returns-7 c e =
-    let given = c .before .before in
-    choose-act _ _ _ _ _ _ _ _ _ _ _ _ _ _ _ _ _ e (given .before .before .b3 .given .1) (c .before .variable7 .ensures) (given .choose .ensures) (c .set-mark2 .ensures)
+    choose-act _ _ _ _ _ _ _ _ _ _ _ _ _ _ _ (c .before .before .before .b3 .given .1) (c .before .choose .ensures)
+    (c .store2 .ensures (c .before .before .before .before .before .args .mode) e)
 
 pub run-box-spec : {M : Type 1} → statement M
 run-box-spec =
@@ -121,11 +114,10 @@ run-box-spec =
     variable-requires
     variable-requires-2
     operate-requires
-    variable-requires-3
-    set-mark-requires
+    store-requires
     enum-known-b-2
+    variable-requires-3
     variable-requires-4
-    variable-requires-5
     decision-notice-requires
     named-by-requires
     returns
@@ -133,14 +125,13 @@ run-box-spec =
     counter-mark-requires
     returns-2
     enum-told
-    variable-requires-6
+    variable-requires-5
     halt-notice-requires
     named-by-requires-2
     returns-3
     enum-known-b-3
     choose-requires
-    variable-requires-7
-    set-mark-requires-2
+    store-requires-2
     returns-4
     returns-5
     returns-6
