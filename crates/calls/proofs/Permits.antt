@@ -11,7 +11,8 @@ use Rattle.format.specs.File.{inRange}
 use Rattle.format.specs.declared.Header.{Header}
 use Rattle.format.specs.declared.Refusal.{Refusal}
 use Rattle.chart.specs.WriteBack.{fileLength, hasRoom}
-use Rattle.calls.specs.Calls.{begin, advance, writeBack, rewrite, Standing, refuseIf, check}
+use Rattle.calls.specs.Calls.{begin, advance, writeBack, rewrite, refuseIf, check}
+use Rattle.calls.specs.declared.Standing.{Standing}
 use Rattle.calls.specs.declared.Verdict.{Verdict}
 use Rattle.calls.specs.declared.Verdict.the-variants.{Done, Refused}
 

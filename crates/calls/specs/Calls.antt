@@ -6,9 +6,11 @@ use lib.Dec.{eqb, ltb}
 use lib.ListN.{length}
 use Rattle.format.specs.File.{inRange, refusal, checkFile}
 use Rattle.format.specs.declared.Header.{Header}
+use Rattle.format.specs.declared.Refusal.{Refusal}
 use Rattle.format.specs.declared.Checked.{Checked}
 use Rattle.format.specs.declared.Checked.the-variants as checked
 use Rattle.chart.specs.WriteBack.{hasRoom}
+use Rattle.calls.specs.declared.Standing.{Standing}
 use Rattle.calls.specs.declared.Verdict.{Verdict}
 use Rattle.calls.specs.declared.Verdict.the-variants.{Done, Refused}
 
@@ -22,20 +24,17 @@ pub data Call : Type 0 where
   writeBack : (buffer : List ℕ) → Call
   rewrite : Call
 
--- What the refusals look at of a runner: the header of the chart held, whether a run is under way, the least amount by which it may be advanced, and
--- whether there is an ended run.
-pub record Standing : Type 0 where
-  pub header : Header
-  pub running : Bool
-  pub least : ℕ
-  pub ended : Bool
-
 -- A refusal whose detail is 0, and a rule that refuses where it is broken.
 abbrev pub refuse : ℕ → Verdict
 refuse number = Refused (refusal number 0)
 
 abbrev pub refuseIf : Bool → ℕ → Verdict → Verdict
 refuseIf broken number otherwise = cond broken (refuse number) otherwise
+
+-- A value by a verdict: of a call that is done, or of a refusal.
+abbrev pub byVerdict : {A : Type 0} → Verdict → A → (Refusal → A) → A
+byVerdict Done done refused = done
+byVerdict (Refused x) done refused = refused x
 
 -- What a begin and a rewriting ask first: a chart, and no run under way.
 abbrev pub atRest : Standing → Verdict → Verdict

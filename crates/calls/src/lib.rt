@@ -2,16 +2,21 @@
 use format::Header;
 use format::Refusal;
 ghost use mathlib.Core.Path.{_≡_};
-ghost use mathlib.Core.List.{List};
-ghost use Prim.Native.Nat.{ℕ};
-ghost use lib.ListN.{length};
 ghost use Rattle.format.specs.File.{refusal};
-ghost use Rattle.calls.specs.Calls.{begin, advance, writeBack, rewrite, Standing, check};
+ghost use Rattle.calls.specs.Calls.{begin, advance, writeBack, rewrite, atRest, check};
 
 // Done, or refused.
 pub enum Verdict {
     Done,
     Refused(Refusal),
+}
+
+// What the refusals look at of a runner: the header of the chart held, whether a run is under way, the least amount by which it may be advanced, and whether there is an ended run.
+pub struct Standing {
+    pub header: Header,
+    pub running: bool,
+    pub least: u32,
+    pub ended: bool,
 }
 
 // A refusal whose detail is 0.
@@ -21,77 +26,89 @@ pub fn refuse(number: u32) -> Verdict
     Verdict::Refused(Refusal { number, detail: 0 })
 }
 
-// The verdict on a begin, by the header of the chart held, whether a run is under way, and the arguments.
+// What a begin and a rewriting ask first: a chart, and no run under way.
+fn at_rest(standing: Standing) -> Verdict
+    ensures { λ r. ⌜ r ≡ atRest standing Verdict.Done ⌝ }
+{
+    if !format::in_range(standing.header) {
+        return refuse(21);
+    }
+    if standing.running {
+        return refuse(22);
+    }
+    Verdict::Done
+}
+
+// The verdict on a begin.
 pub fn check_begin(
-    header: Header,
-    running: bool,
+    standing: Standing,
     mode: u32,
     inputs: &[u32],
     allowed: u32,
     limit: u32,
 ) -> Verdict
-    ensures { λ r. ⌜ ((s : Standing) → s .header ≡ header → s .running ≡ running → r ≡ check (begin mode (now (inputs .entry)) allowed limit) s) ⌝ }
+    ensures { λ r. ⌜ r ≡ check (begin mode (now (inputs .entry)) allowed limit) standing ⌝ }
 {
-    if !format::in_range(header) {
-        return refuse(21);
+    let first = at_rest(standing);
+    match first {
+        Verdict::Refused(_) => first,
+        Verdict::Done => {
+            if 2 < mode {
+                return refuse(7);
+            }
+            let k = standing.header.inputs;
+            if inputs.len() != widen::to_usize(k) {
+                return refuse(9);
+            }
+            if (allowed >> k) != 0 {
+                return refuse(8);
+            }
+            if 65535 < limit {
+                return refuse(10);
+            }
+            Verdict::Done
+        }
     }
-    if running {
-        return refuse(22);
-    }
-    if 2 < mode {
-        return refuse(7);
-    }
-    let k = header.inputs;
-    if inputs.len() != widen::to_usize(k) {
-        return refuse(9);
-    }
-    if (allowed >> k) != 0 {
-        return refuse(8);
-    }
-    if 65535 < limit {
-        return refuse(10);
-    }
-    Verdict::Done
 }
 
-// The verdict on an advance by m, by whether a run is under way and the least amount by which it may be advanced.
-pub fn check_advance(running: bool, least: u32, m: u32) -> Verdict
-    ensures { λ r. ⌜ ((s : Standing) → s .running ≡ running → s .least ≡ least → r ≡ check (advance m) s) ⌝ }
+// The verdict on an advance by m.
+pub fn check_advance(standing: Standing, m: u32) -> Verdict
+    ensures { λ r. ⌜ r ≡ check (advance m) standing ⌝ }
 {
-    if !running {
+    if !standing.running {
         return refuse(23);
     }
-    if m < least {
+    if m < standing.least {
         return refuse(13);
     }
     Verdict::Done
 }
 
-// The verdict on a write back into a buffer of so many bytes.
-pub fn check_write_back(header: Header, room: usize) -> Verdict
-    ensures { λ r. ⌜ ((buffer : List ℕ) (s : Standing) → length buffer ≡ room → s .header ≡ header → r ≡ check (writeBack buffer) s) ⌝ }
+// The verdict on a write back into a buffer, of which only the length is looked at.
+pub fn check_write_back(standing: Standing, buffer: &[u8]) -> Verdict
+    ensures { λ r. ⌜ r ≡ check (writeBack (now (buffer .entry))) standing ⌝ }
 {
-    if !format::in_range(header) {
+    if !format::in_range(standing.header) {
         return refuse(21);
     }
-    if room < chart::file_length(header) {
+    if buffer.len() < chart::file_length(standing.header) {
         return refuse(12);
     }
     Verdict::Done
 }
 
 // The verdict on a rewriting of the chart held.
-pub fn check_rewrite(header: Header, busy: bool) -> Verdict
-    ensures { λ r. ⌜ ((s : Standing) → s .header ≡ header → s .running ≡ busy → r ≡ check rewrite s) ⌝ }
+pub fn check_rewrite(standing: Standing) -> Verdict
+    ensures { λ r. ⌜ r ≡ check rewrite standing ⌝ }
 {
-    if !format::in_range(header) {
-        return refuse(21);
+    let first = at_rest(standing);
+    match first {
+        Verdict::Refused(_) => first,
+        Verdict::Done => {
+            if standing.header.edition != 2 {
+                return refuse(15);
+            }
+            Verdict::Done
+        }
     }
-    if busy {
-        return refuse(22);
-    }
-    if header.edition != 2 {
-        return refuse(15);
-    }
-    Verdict::Done
 }

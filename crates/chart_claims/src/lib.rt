@@ -6,8 +6,11 @@ ghost use Rattle.chart_claims.specs.Bounds.{ExactRoom, LastBoxShown, End
 
 // The claims of this crate. A claim counts where a contract holds it: without this function the theorems could be deleted, and nothing would fail.
 pub fn promised()
-    ensures { λ _. ⌜ FileHasLength × ReproducesFile × ReproducesChart × ObeysRules × RuledIsLoaded × ShowsTheBox × StaysInRange
+    ensures { λ _. ⌜
+        FileHasLength × ReproducesFile × ReproducesChart × ObeysRules × RuledIsLoaded
+        × ShowsTheBox × StaysInRange
         × ExchangeRefused × OutOfOrderRefused × OthersAddNothing
         × RewrittenIsRuled × RewrittenByPlaces × RewrittenExactly × RewrittenOnce
-        × ExactRoom × LastBoxShown × EndsExchanged × LoadsWithinBounds ⌝ }
+        × ExactRoom × LastBoxShown × EndsExchanged × LoadsWithinBounds
+        ⌝ }
 {}

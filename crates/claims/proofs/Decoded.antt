@@ -3,13 +3,14 @@ use Prim.Native.Nat.{ℕ, _<_}
 use mathlib.Core.List.{List, [], _∷_}
 use mathlib.Core.Path.{_≡_}
 use mathlib.Core.Bool.{Bool, true, false, cond}
-use borrow.Author.Tests.{eqb-true, lt-leb}
+use borrow.Author.Tests.{eqb-true}
 use Rattle.boxes.specs.Bytes.{at, boxOf}
 use Rattle.boxes.specs.Box.{readsLeft, readsRight, operandRule, wellFormed}
 use Rattle.chart_claims.specs.Claims.{BoxInRange, assignment, decision, halt, choice}
 use Rattle.chart_claims.proofs.Rules.{assignment-says, decision-says, halt-says, choice-says, by-kind}
 use Rattle.operations.specs.Operation.{readBy}
-use Rattle.decode.specs.Decode.{decode, boxAt, Box, assigns, decides, halts, meaning, flow}
+use Rattle.decode.specs.Decode.{decode, Box, assigns, decides, halts, meaning, flow}
+use Rattle.decode.proofs.Decoded.{box-here}
 use Rattle.claims.specs.Charts.{AllReadable, ReadsOnly}
 
 -- A box whose next boxes are below n.
@@ -19,11 +20,11 @@ pub data GoesBelow (n : ℕ) : Box → Type 0 where
   halt-below : GoesBelow n halts
 
 pub goes-below : (n edition : ℕ) (table : List ℕ) (p : ℕ) → p < 204 → BoxInRange edition n (boxOf table p) → GoesBelow n (flow edition table p)
-unfolding boxAt decode meaning
-goes-below n edition table p l (assignment e a b c d f g) = rw (lt-leb 204 p l, e) (assign-below g)
-goes-below n edition table p l (decision e a b c f g) = rw (lt-leb 204 p l, e) (decide-below f g)
-goes-below n edition table p l (halt e) = rw (lt-leb 204 p l, e) halt-below
-goes-below n edition table p l (choice s e a b c d f g i j) = rw (lt-leb 204 p l, e) (assign-below g)
+unfolding decode meaning
+goes-below n edition table p l (assignment e a b c d f g) = rw (box-here table p l, e) (assign-below g)
+goes-below n edition table p l (decision e a b c f g) = rw (box-here table p l, e) (decide-below f g)
+goes-below n edition table p l (halt e) = rw (box-here table p l, e) halt-below
+goes-below n edition table p l (choice s e a b c d f g i j) = rw (box-here table p l, e) (assign-below g)
 
 -- The operands that an operation reads are held to the rule of a read operand.
 operands-readable : (k : ℕ) (l r : Bool) (left right : ℕ) → operandRule k l left ≡ true → operandRule k r right ≡ true
@@ -34,20 +35,20 @@ operands-readable k true false left right e d = (e, tt)
 operands-readable k false r left right e d = tt
 
 pub reads-only : (edition k n : ℕ) (table : List ℕ) (p : ℕ) → p < 204 → wellFormed edition k n (boxOf table p) ≡ true → ReadsOnly k (flow edition table p)
-unfolding boxAt decode meaning readBy
+unfolding decode meaning readBy
 reads-only edition k n table p l e =
     let b = boxOf table p in
     by-kind edition k n b (ReadsOnly k (flow edition table p))
     (λ a.
     let r = assignment-says edition k n b a in
-    rw (lt-leb 204 p l, r .0)
+    rw (box-here table p l, r .0)
     (operands-readable k (readsLeft (at b 2)) (readsRight edition (at b 2)) (at b 3) (at b 4) (r .1 .1 .1 .1 .0) (r .1 .1 .1 .1 .1 .0)))
     (λ d.
     let r = decision-says k n b d in
-    rw (lt-leb 204 p l, eqb-true (at b 0) 2 (r .0)) (r .1 .1 .1 .0, (r .1 .1 .1 .1 .0, tt)))
-    (λ h. rw (lt-leb 204 p l, halt-says b h) tt)
+    rw (box-here table p l, eqb-true (at b 0) 2 (r .0)) (r .1 .1 .1 .0, (r .1 .1 .1 .1 .0, tt)))
+    (λ h. rw (box-here table p l, halt-says b h) tt)
     (λ c.
     let r = choice-says k n b c in
     let read = r .1 .1 .1 .1 in
-    rw (lt-leb 204 p l, eqb-true (at b 0) 4 (r .0)) (read .0, (read .1 .0, (read .1 .1 .1 .0, (read .1 .1 .1 .1 .0, tt)))))
+    rw (box-here table p l, eqb-true (at b 0) 4 (r .0)) (read .0, (read .1 .0, (read .1 .1 .1 .0, (read .1 .1 .1 .1 .0, tt)))))
     e

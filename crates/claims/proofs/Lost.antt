@@ -9,7 +9,7 @@ use Rattle.marks.specs.Marks.{modeOf, marked, union}
 use Rattle.marks.specs.declared.Mode.{Mode}
 use Rattle.marks.specs.declared.Mode.the-variants.{HighWater}
 use Rattle.marks.proofs.MarkLaws.{marked-or}
-use Rattle.machine.specs.Act.{entry, entries, act}
+use Rattle.machine.specs.Act.{entry, entries, actBy, act}
 use Rattle.machine.specs.Run.{Run, notice, spent, Progress, going, over, goesOn, settle, onward, kept}
 use Rattle.machine.proofs.Runs.{goes-by}
 use Rattle.claims.proofs.Branches.{clash}
@@ -29,7 +29,7 @@ marked-left a b e = marked-or a b ∙ rw e
 
 settle-lost : (q : Run) (b : Box) → modeOf (q .mode) ≡ HighWater → marked (q .counter) ≡ true
     → Lost (settle (act HighWater b (q .vars) (q .marks) (q .counter)) q)
-unfolding settle act
+unfolding settle actBy
 settle-lost q (assigns t reads gives next) m c = goes-lost _ m c
 settle-lost q (decides reads holds next other) m c = goes-lost _ m (marked-left (q .counter) (union (entries (q .marks) reads)) c)
 settle-lost q halts m c = rw (marked-left (q .counter) (entry (q .marks) 31) c) noticed

@@ -16,7 +16,7 @@ use Rattle.decode.specs.Decode.{Box, assigns, decides, halts}
 use Rattle.marks.specs.Marks.{modeOf, marked, union, decisionNotice, haltNotice}
 use Rattle.marks.specs.declared.Mode.{Mode}
 use Rattle.marks.proofs.MarkLaws.{marked-or, by-mode, by-map, set-surveillance, set-high-water, set-by-mode}
-use Rattle.machine.specs.Act.{entry, entries, noticeOr, act}
+use Rattle.machine.specs.Act.{entry, entries, noticeOr, actBy, act}
 use Rattle.machine.specs.Run.{Run, Progress, going, over, moved, goesOn, settle, onward, run}
 use Rattle.machine.specs.declared.Act.{Act}
 use Rattle.machine.specs.declared.Act.the-variants.{Store, Go, Value, Notice}
@@ -134,7 +134,7 @@ notice-as m set other = rw (as-marked set, ← by-map asMark m 0 set 0) (cond-bo
 
 module _ (m : Mode) (vars marks : List ℕ) (counter : ℕ) where
   act-as : (b : Box) → act m b vars (map asMark marks) (asMark counter) ≡ actAs (act m b vars marks counter)
-  unfolding act
+  unfolding actBy
   act-as (assigns t reads gives next) =
       let old = entry marks t in
       let read = union (entries marks reads) in

@@ -10,7 +10,7 @@ use borrow.Author.Tests.{eqb-true, ne-eqb}
 use Rattle.chart.specs.Chart.{Chart}
 use Rattle.decode.specs.Decode.{Box, assigns, decides, halts, flow}
 use Rattle.marks.specs.Marks.{modeOf, marked, union, decisionNotice, counterMark, haltNotice, namedBy, hides}
-use Rattle.machine.specs.Act.{entry, entries, act}
+use Rattle.machine.specs.Act.{entry, entries, actBy, act}
 use Rattle.machine.specs.Run.{Run, Ending, valued, notice, spent, Progress, going, over, settle, step, run}
 use Rattle.machine.specs.declared.Act.the-variants.{Go, Value}
 use Rattle.machine.proofs.Runs.{run-keeps, goes-by, notice-by, kept-by}
@@ -93,7 +93,7 @@ Names mode (going q) = q .mode ≡ mode
 Names mode (over e steps) = NamesBy mode e
 
 settle-names : (q : Run) (b : Box) → Names (q .mode) (settle (act (modeOf (q .mode)) b (q .vars) (q .marks) (q .counter)) q)
-unfolding settle act
+unfolding settle actBy
 settle-names q (assigns t reads gives next) = goes-by (Names (q .mode)) _ (spent-names (q .mode)) (λ l. refl)
 settle-names q (decides reads holds next other) =
     let m = modeOf (q .mode) in

@@ -13,7 +13,7 @@ use Rattle.marks.specs.Marks.{modeOf, marked, union}
 use Rattle.marks.specs.declared.Mode.{Mode}
 use Rattle.marks.specs.declared.Mode.the-variants.{Surveillance, HighWater}
 use Rattle.marks.proofs.MarkLaws.{or-none, or-zeros, union-none, marked-none, none-marked}
-use Rattle.machine.specs.Act.{entry, entries, act}
+use Rattle.machine.specs.Act.{entry, entries, actBy, act}
 use Rattle.machine.specs.Run.{Run, Ending, valued, Progress, going, over, moved, goesOn, settle, step, onward, run}
 use Rattle.machine.specs.declared.Act.the-variants.{Go, Value, Notice}
 use Rattle.claims.proofs.Branches.{clash, cond-both, set-each}
@@ -55,7 +55,7 @@ goes-level q ms m c u = cond-both Pace (leb (q .limit) (q .steps)) (lost used-up
 -- One box of both.
 settle-pace : (q : Run) (ms : List ℕ) (b : Box) → modeOf (q .mode) ≡ HighWater → q .counter ≡ 0 → Under ms (q .marks)
     → Pace (settle (act HighWater b (q .vars) (q .marks) (q .counter)) q) (settle (act Surveillance b (q .vars) ms 0) (beside q ms))
-unfolding settle act
+unfolding settle actBy
 settle-pace q ms (assigns t reads gives next) m c u =
     let read = union (entries (q .marks) reads) in
     goes-level _ _ m c

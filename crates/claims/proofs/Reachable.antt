@@ -25,7 +25,7 @@ use Rattle.chart_claims.proofs.Rewritten.{rewritten-is-ruled}
 use Rattle.decode.specs.Decode.{Box, flow}
 use Rattle.marks.specs.Marks.{modeOf, union, decisionNotice, counterMark, haltNotice}
 use Rattle.marks.specs.declared.Mode.{Mode}
-use Rattle.machine.specs.Act.{entry, entries, act}
+use Rattle.machine.specs.Act.{entry, entries, actBy, act}
 use Rattle.machine.specs.Run.{Run, Ending, valued, notice, spent, Progress, going, over, moved, goesOn, settle, step, run}
 use Rattle.machine.specs.declared.Act.the-variants.{Go, Value}
 use Rattle.machine.proofs.Runs.{run-keeps, goes-by, notice-by, kept-by}
@@ -99,7 +99,7 @@ module _ (h : Header) (q : Run) (u : RunInRange h q) where
       goes-by (Ranged h) _ tt (λ l. record { at = b; mode = u .mode; below = l; limit = u .limit; vars = lv; marks = lm })
 
   settle-ranged : (m : Mode) (b : Box) → GoesBelow (h .boxes) b → Ranged h (settle (act m b (q .vars) (q .marks) (q .counter)) q)
-  unfolding settle act
+  unfolding settle actBy
   settle-ranged m b (assign-below l) = goes-ranged _ _ _ _ (simp length-set (u .vars)) (simp length-set (u .marks)) l
   settle-ranged m b (decide-below {reads = reads} {holds = holds} {next = next} {other = other} l k) =
       let read = union (entries (q .marks) reads) in

@@ -10,7 +10,7 @@ use Rattle.decode.specs.Decode.{Box, meaning}
 use Rattle.marks.specs.Marks.{modeOf, hides}
 use Rattle.marks.specs.declared.Mode.{Mode}
 use Rattle.marks.specs.declared.Mode.the-variants.{Bare, Surveillance, HighWater}
-use Rattle.machine.specs.Act.{act}
+use Rattle.machine.specs.Act.{actBy}
 use Rattle.machine.specs.Run.{Run, Ending, Progress, going, over, run}
 use Rattle.machine.proofs.Runs.{kept-by, kept-all}
 use Rattle.begin.specs.Begin.{effective}
@@ -45,7 +45,7 @@ not-refused (writeBack b) r n d e = clash cc
 not-refused rewrite r n d e = clash cc
 
 pub no-operation-stops : NoOperationStops
-unfolding act meaning
+unfolding actBy meaning
 no-operation-stops =
     (λ t op i j next k edition mode vars marks counter. (_, _, refl), λ t c i j next x y edition mode vars marks counter. (_, _, refl))
 

@@ -10,7 +10,7 @@ use Rattle.decode.specs.Decode.{Box, assigns, decides, halts}
 use Rattle.marks.specs.Marks.{modeOf, union, targetMark, decisionNotice, counterMark, haltNotice, namedBy}
 use Rattle.marks.specs.declared.Mode.{Mode}
 use Rattle.marks.proofs.MarkLaws.{by-mode}
-use Rattle.machine.specs.Act.{entry, entries, act}
+use Rattle.machine.specs.Act.{entry, entries, actBy, act}
 use Rattle.machine.specs.Run.{Run, Progress, going, over, settle, run}
 use Rattle.machine.specs.declared.Act.the-variants.{Go, Value}
 use Rattle.machine.proofs.Runs.{run-keeps, goes-by, notice-by}
@@ -33,7 +33,7 @@ module _ (P : ℕ → Type 0) (none : P 0) (join : (a b : ℕ) → P a → P b �
   named-has m set h = by-mode (λ k. P) m 0 set 0 none h none
 
   settle-carries : (q : Run) (m : Mode) (b : Box) → AllSets P q → Carries P (settle (act m b (q .vars) (q .marks) (q .counter)) q)
-  unfolding settle act
+  unfolding settle actBy
   settle-carries q m (assigns t reads gives next) h =
       let read = union (entries (q .marks) reads) in
       let old = entry (q .marks) t in

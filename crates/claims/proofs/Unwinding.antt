@@ -15,7 +15,7 @@ use Rattle.marks.specs.Marks.{modeOf, marked, union, byMode, targetMark, haltNo
 use Rattle.marks.specs.declared.Mode.{Mode}
 use Rattle.marks.specs.declared.Mode.the-variants.{Surveillance, HighWater}
 use Rattle.marks.proofs.MarkLaws.{or-none, union-none, marked-none}
-use Rattle.machine.specs.Act.{entry, entries, act}
+use Rattle.machine.specs.Act.{entry, entries, actBy, act}
 use Rattle.machine.specs.Run.{Run, Progress, going, over, goesOn, settle, step, onward, run, kept}
 use Rattle.machine.specs.declared.Act.the-variants.{Go, Value, Notice}
 use Rattle.calls.specs.Calls.{Call, load, begin, advance, answer, abandon, writeBack, rewrite, check}
@@ -87,7 +87,7 @@ module _ (q : Run) (w : List ℕ) (h : Agree (q .marks) (q .vars) w) where
   settlesLow m b = Low m (settle (act m b (q .vars) (q .marks) (q .counter)) q) (settle (act m b w (q .marks) (q .counter)) (withVars q w))
 
   settle-low : (b : Box) {m : Mode} → Watched m (q .mode) (q .counter) → settlesLow m b
-  unfolding settle act
+  unfolding settle actBy
   settle-low (assigns t reads gives next) {m} g =
       let read = union (entries (q .marks) reads) in
       goes-low _ _ g

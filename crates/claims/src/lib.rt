@@ -11,9 +11,16 @@ ghost use Rattle.claims.specs.Bounds.{AnswersAtTheLimit, RunsWithinBound
 
 // The claims of this crate. A claim counts where a contract holds it: without this function the theorems could be deleted, and nothing would fail.
 pub fn promised()
-    ensures { λ _. ⌜ Demand3 × OneFile × RefusalChangesNothing × AdvancesJoin × NoOperationStops × CountsBoxes × LimitEnds × OneAdvanceEnds × TellsWholeRun × WithinLimit × Cleared
-        × HeldObeys × RunsInRange × EndsInRange × LoadedIsWritten × WrittenIsLoaded × RepliesDistinct
-        × EmptyWhereUnmarked × SetsAreUnions × UnionAndKept × OneArithmetic × SetAsRuled × SetsOnlyName × MarksWithheld × NamesWithheld × SurveillanceNames × OthersNameNone × HighWaterTells × HighWaterAnswers × HighWaterEnds
+    ensures { λ _. ⌜
+        Demand3 × OneFile × RefusalChangesNothing × AdvancesJoin × NoOperationStops
+        × CountsBoxes × LimitEnds × OneAdvanceEnds × TellsWholeRun × WithinLimit × Cleared
+        × HeldObeys × RunsInRange × EndsInRange × LoadedIsWritten × WrittenIsLoaded
+        × RepliesDistinct
+        × EmptyWhereUnmarked × SetsAreUnions × UnionAndKept × OneArithmetic × SetAsRuled
+        × SetsOnlyName × MarksWithheld × NamesWithheld × SurveillanceNames × OthersNameNone
+        × HighWaterTells × HighWaterAnswers × HighWaterEnds
         × OthersAlike × BoxesAlike × CountersDontWrap
-        × AnswersAtTheLimit × RunsWithinBounds × WrittenIntoExactRoom × HeldWithinBounds × StatesWithinBounds × NamesWithinBounds × KeepsOneInput ⌝ }
+        × AnswersAtTheLimit × RunsWithinBounds × WrittenIntoExactRoom × HeldWithinBounds
+        × StatesWithinBounds × NamesWithinBounds × KeepsOneInput
+        ⌝ }
 {}

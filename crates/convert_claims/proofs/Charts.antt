@@ -8,7 +8,7 @@ use native.Mathlib.Decide.{decLt}
 use native.Mathlib.Omega.{arith}
 use lib.Dec.{leb}
 use lib.ListN.{replicate}
-use borrow.Author.Tests.{leb-false}
+use borrow.Author.Tests.{leb-true, leb-false}
 use Rattle.boxes.specs.Bytes.{boxOf}
 use Rattle.boxes.proofs.Zeros.{zeros-are}
 use Rattle.format.specs.File.{headerOf, checkFile}
@@ -20,7 +20,8 @@ use Rattle.chart.specs.Chart.{tableOf, Chart, chartOf}
 use Rattle.chart.proofs.Lists.{length-part}
 use Rattle.chart_claims.proofs.Rules.{obeys-rules}
 use Rattle.convert.specs.Convert.{otherThan, inOther}
-use Rattle.decode.specs.Decode.{Box, decode, boxAt, meaning, flow}
+use Rattle.decode.specs.Decode.{Box, decode, meaning, flow}
+use Rattle.decode.proofs.Decoded.{box-here, box-past}
 use Rattle.marks.specs.Marks.{modeOf}
 use Rattle.machine.specs.Run.{Progress, going, over, run, kept}
 use Rattle.calls.specs.Calls.{Call, load, begin, advance, answer, abandon, writeBack, rewrite, check}
@@ -55,12 +56,12 @@ module _ (f : List ℕ) (h : Header) (e : checkFile f ≡ checked.Accepted h) (a
           (zeros-are (boxOf (tableOf f) p) (o .zero p (omega arith)) ∙ ap (λ (n : ℕ). replicate n 0) (length-part (tableOf f) (10 * p) 10 (omega (arith, o .long))))
 
   one-flow : flow (otherThan (h .edition)) (tableOf f) ≡ flow (h .edition) (tableOf f)
-  unfolding boxAt meaning
+  unfolding meaning
   one-flow = fun-ext (λ p. on p (leb 204 p) refl)
     where
       on : (p : ℕ) (b : Bool) → leb 204 p ≡ b → flow (otherThan (h .edition)) (tableOf f) p ≡ flow (h .edition) (tableOf f) p
-      on p true q = rw q refl
-      on p false q = rw q (does-alike p (leb-false 204 p q))
+      on p true q = rw (box-past (tableOf f) p (leb-true 204 p q)) refl
+      on p false q = rw (box-here (tableOf f) p (leb-false 204 p q)) (does-alike p (leb-false 204 p q))
 
 pub ends-alike : EndsAlike
 unfolding whole

@@ -4,6 +4,8 @@ ghost use Rattle.convert_claims.specs.Conversions.{RefusesFirstUntaken, 
 
 // The claims of this crate. A claim counts where a contract holds it: without this function the theorems could be deleted, and nothing would fail.
 pub fn promised()
-    ensures { λ _. ⌜ ConvertsToOther × ConvertsIntoAny × ConvertsBack × EndsAlike × TellsAlike
-        × RefusesFirstUntaken × KindsOfBoxes × RefusedAsLoaded × RefusalLeavesBuffer ⌝ }
+    ensures { λ _. ⌜
+        ConvertsToOther × ConvertsIntoAny × ConvertsBack × EndsAlike × TellsAlike
+        × RefusesFirstUntaken × KindsOfBoxes × RefusedAsLoaded × RefusalLeavesBuffer
+        ⌝ }
 {}

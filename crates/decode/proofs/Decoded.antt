@@ -1,30 +1,31 @@
--- What boxAt gives at a place of the table: it decodes ten bytes of it from byte i on, where i is 10 * p (`read`), by the kind that stands there. And which halves are of a place. Assumes
--- nothing.
-use Prim.Native.Nat.{ℕ, _+_, _*_, _≤_, _<_}
-use mathlib.Core.Path.{_≡_, ap, sym, _∙_}
+-- What boxFrom gives at byte i of a table: it decodes the ten bytes from there on (`read`), by the kind that stands there. Of the 204 places boxAt decodes the place's ten bytes (`box-here`), and
+-- past them it is a halt (`box-past`). By which halves the box of a number is found (`Finds`): by five times the number, or the lesser of it and 204. Assumes nothing.
+use Prim.Native.Nat.{ℕ, _+_, _*_, _≤_, _<_, min}
+use mathlib.Core.Path.{_≡_, refl, ap, sym, _∙_}
 use mathlib.Core.List.{List, [], _∷_}
+use mathlib.Core.Bool.{Bool, true, false}
+use native.Mathlib.Nat.{add-zero}
 use native.Mathlib.Omega.{arith}
-use lib.Dec.{ltb}
-use borrow.Author.Tests.{ltb-true, ltb-false, lt-leb, ne-eqb}
-use Rattle.boxes.specs.Bytes.{at, boxOf}
-use Rattle.boxes.proofs.Bools.{never-true, never-false}
-use Rattle.boxes.proofs.Places.{box-byte, box-kind}
-use Rattle.decode.specs.Decode.{word, decode, boxAt, HalfOf}
+use lib.Dec.{leb}
+use borrow.Author.Tests.{le-leb, lt-leb, leb-true, leb-false, ne-eqb}
+use Rattle.boxes.specs.Bytes.{at, part, boxOf}
+use Rattle.boxes.proofs.Places.{part-byte}
+use Rattle.decode.specs.Decode.{word, decode, boxFrom, boxAt}
 use Rattle.decode.specs.declared.FlowBox.the-variants.{Assign, Decide, Halt, Choose}
 
-module _ (t : List ℕ) (p : ℕ) (h : p < 204) (i : ℕ) (e-i : i ≡ 10 * p) where
-  byte : (k : ℕ) → k < 10 → at (boxOf t p) k ≡ at t (i + k)
-  byte k l = box-byte t p k l ∙ ap (λ (n : ℕ). at t (n + k)) (sym e-i)
+module _ (t : List ℕ) (i : ℕ) (h : i ≤ 2030) where
+  byte : (k : ℕ) → k < 10 → at (part t i 10) k ≡ at t (i + k)
+  byte k l = part-byte t i 10 k l
 
-  kind : at (boxOf t p) 0 ≡ at t i
-  kind = box-kind t p ∙ ap (at t) (sym e-i)
+  kind : at (part t i 10) 0 ≡ at t i
+  kind = byte 0 (omega arith) ∙ ap (at t) (add-zero i)
 
-  read : boxAt t p
+  read : boxFrom t i
       ≡ decode (at t i ∷ at t (i + 1) ∷ at t (i + 2) ∷ at t (i + 3) ∷ at t (i + 4) ∷ at t (i + 5) ∷ at t (i + 6) ∷ at t (i + 7) ∷ at t (i + 8) ∷ at t (i + 9) ∷ [])
-  unfolding boxAt decode
+  unfolding boxFrom decode
   read =
       rw (
-        lt-leb 204 p h,
+        lt-leb 2031 i (omega arith),
         kind,
         byte 1 (omega arith),
         byte 2 (omega arith),
@@ -41,30 +42,50 @@ module _ (t : List ℕ) (p : ℕ) (h : p < 204) (i : ℕ) (e-i : i ≡ 10 * p) w
       → at t i ≡ 1
       → k ≡ word (at t (i + 6)) (at t (i + 7)) (at t (i + 8)) (at t (i + 9))
       → Assign (at t (i + 1)) (at t (i + 2)) (at t (i + 3)) (at t (i + 4)) (at t (i + 5)) k
-      ≡ boxAt t p
+      ≡ boxFrom t i
   unfolding decode
   assign-at k e w = rw (read, e, w)
 
   pub decide-at : at t i ≡ 2
-      → Decide (at t (i + 2)) (at t (i + 3)) (at t (i + 4)) (at t (i + 5)) (at t (i + 6)) ≡ boxAt t p
+      → Decide (at t (i + 2)) (at t (i + 3)) (at t (i + 4)) (at t (i + 5)) (at t (i + 6)) ≡ boxFrom t i
   unfolding decode
   decide-at e = rw (read, e)
 
   pub choose-at : at t i ≡ 4
-      → Choose (at t (i + 1)) (at t (i + 2)) (at t (i + 3)) (at t (i + 4)) (at t (i + 5)) (at t (i + 6)) (at t (i + 7)) ≡ boxAt t p
+      → Choose (at t (i + 1)) (at t (i + 2)) (at t (i + 3)) (at t (i + 4)) (at t (i + 5)) (at t (i + 6)) (at t (i + 7)) ≡ boxFrom t i
   unfolding decode
   choose-at e = rw (read, e)
 
-  pub halt-at : (at t i ≡ 1 → ⊥) → (at t i ≡ 2 → ⊥) → (at t i ≡ 4 → ⊥) → Halt ≡ boxAt t p
+  pub halt-at : (at t i ≡ 1 → ⊥) → (at t i ≡ 2 → ⊥) → (at t i ≡ 4 → ⊥) → Halt ≡ boxFrom t i
   unfolding decode
   halt-at one two four = rw (read, ne-eqb _ _ one, ne-eqb _ _ two, ne-eqb _ _ four)
 
--- Where half of where a box begins is past the places, or not.
-module _ (p half : ℕ) (h : HalfOf p half) where
-  pub past-places : 1015 < half → 204 ≤ p
-  past-places l = ltb-false p 204 (never-true (ltb p 204) (λ e. omega (arith, l, h .0 (ltb-true p 204 e), ltb-true p 204 e)))
+pub from-past : (t : List ℕ) (i : ℕ) → 2030 < i → Halt ≡ boxFrom t i
+unfolding boxFrom
+from-past t i h = rw (le-leb 2031 i h)
 
-  pub in-places : half ≤ 1015 → (p < 204) × (2 * half ≡ 10 * p)
-  in-places l =
-      let below : p < 204 = ltb-true p 204 (never-false (ltb p 204) (λ e. omega (arith, l, h .1 (ltb-false p 204 e)))) in
-      (below, omega (arith, h .0 below))
+pub box-here : (t : List ℕ) (p : ℕ) → p < 204 → boxAt t p ≡ decode (boxOf t p)
+unfolding boxFrom
+box-here t p h = rw (lt-leb 2031 (10 * p) (omega arith))
+
+pub box-past : (t : List ℕ) (p : ℕ) → 204 ≤ p → boxAt t p ≡ Halt
+unfolding boxFrom
+box-past t p h = rw (le-leb 2031 (10 * p) (omega arith))
+
+-- A half by which the box of number p is found, in every table.
+abbrev pub Finds : (half p : ℕ) → Type 0
+Finds half p = (t : List ℕ) → boxFrom t (2 * half) ≡ boxAt t p
+
+pub half-finds : (half p : ℕ) → half ≡ 5 * p → Finds half p
+half-finds half p e t = ap (boxFrom t) (omega arith)
+
+pub first-half-finds : (half p : ℕ) → half ≡ 5 * min p 204 → Finds half p
+first-half-finds half p e t = by (leb 204 p) refl
+  where
+    by : (b : Bool) → leb 204 p ≡ b → boxFrom t (2 * half) ≡ boxAt t p
+    by true d =
+        let past = leb-true 204 p d in
+        sym (from-past t (2 * half) (omega arith)) ∙ sym (box-past t p past)
+    by false d =
+        let below = leb-false 204 p d in
+        ap (boxFrom t) (omega arith)

@@ -1,10 +1,9 @@
 -- "Box bytes, by position": the box that stands at a place of the table, and what it does in a chart of an edition.
-use Prim.Native.Nat.{ℕ, _+_, _*_, _≤_, _<_}
-use mathlib.Core.Path.{_≡_}
+use Prim.Native.Nat.{ℕ, _+_, _*_}
 use mathlib.Core.List.{List, [], _∷_}
 use mathlib.Core.Bool.{Bool, cond}
 use lib.Dec.{eqb, leb}
-use Rattle.boxes.specs.Bytes.{at, boxOf}
+use Rattle.boxes.specs.Bytes.{at, part}
 use Rattle.operations.specs.Operation.{readBy, valueOf, compares, chosen}
 use Rattle.decode.specs.declared.FlowBox.{FlowBox}
 use Rattle.decode.specs.declared.FlowBox.the-variants.{Assign, Decide, Halt, Choose}
@@ -22,13 +21,14 @@ decode b =
     (cond (eqb (at b 0) 2) (Decide (at b 2) (at b 3) (at b 4) (at b 5) (at b 6))
     (cond (eqb (at b 0) 4) (Choose (at b 1) (at b 2) (at b 3) (at b 4) (at b 5) (at b 6) (at b 7)) Halt))
 
--- The box at number p of a table, which has 204 places. In a held chart every number that is run is below n.
-unfoldable pub boxAt : List ℕ → ℕ → FlowBox
-boxAt table p = cond (leb 204 p) Halt (decode (boxOf table p))
+-- The box that starts at byte i of a table, ten bytes; a halt where fewer than ten of the 2,040 are left.
+unfoldable pub boxFrom : List ℕ → ℕ → FlowBox
+boxFrom table i = cond (leb 2031 i) Halt (decode (part table i 10))
 
--- By what the code finds the box of a number: half of where it begins, which is below 1,016 for the 204 places and for no other number.
-abbrev pub HalfOf : (p half : ℕ) → Type 0
-HalfOf p half = (p < 204 → half ≡ 5 * p) × (204 ≤ p → 1015 < half)
+-- "Each later block holds 51 boxes of ten bytes, box 0 first": the box of number p. There are 204 places, and past them a halt; in a held chart every
+-- number that is run is below n.
+abbrev pub boxAt : List ℕ → ℕ → FlowBox
+boxAt table p = boxFrom table (10 * p)
 
 -- What a box does, whatever its bytes: it assigns to a target what the variables that it reads give, it decides by what they compare to, or it
 -- halts.

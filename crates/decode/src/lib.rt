@@ -1,7 +1,7 @@
 // The box at a place of the table, ten bytes.
-ghost use Prim.Native.Nat.{ℕ};
+ghost use Prim.Native.Nat.{_*_, min};
 ghost use mathlib.Core.Path.{_≡_};
-ghost use Rattle.decode.specs.Decode.{word, boxAt, HalfOf};
+ghost use Rattle.decode.specs.Decode.{word, boxFrom};
 
 pub enum FlowBox {
     Assign {
@@ -39,26 +39,27 @@ fn word(a: u8, b: u8, c: u8, d: u8) -> u32
     (a as u32) + 256 * (b as u32) + 65536 * (c as u32) + 16777216 * (d as u32)
 }
 
-// Half of where box p begins; of a number that no place has, any half past the places would do. A run takes it along beside p: a byte is read at twice it in one instruction, where ten times p takes one more, and every box waits for it.
+// Half of where box p begins. A run takes it along beside p: a byte is read at twice it in one instruction, where ten times p takes one more, and every
+// box waits for it.
 pub fn half_of(p: u8) -> usize
-    ensures { λ r. ⌜ HalfOf p r ⌝ }
+    ensures { λ r. ⌜ r ≡ 5 * p ⌝ }
 {
     5 * (p as usize)
 }
 
-// The same, by which a run begins: if it began by `half_of`, as it goes on, the compiler would take p along and not its half.
+// The same of the 204 places, by which a run begins: if it began by `half_of`, as it goes on, the compiler would take p along and not its half.
 pub fn first_half(p: u8) -> usize
-    ensures { λ r. ⌜ HalfOf p r ⌝ }
+    ensures { λ r. ⌜ r ≡ 5 * min p 204 ⌝ }
 {
     if 204 <= p {
         return 1020;
     }
-    5 * (p as usize)
+    half_of(p)
 }
 
-// The box of a number, by half of where it begins. A number that no place has, and a kind that no box has, read as a halt.
+// The box that starts at twice `half`; a halt where the table has no ten bytes there. A kind that no box has reads as a halt.
 pub fn box_at(table: &[u8; 2040], half: usize) -> FlowBox
-    ensures { λ r. ⌜ ((p : ℕ) → HalfOf p half → r ≡ boxAt (now (table .entry)) p) ⌝ }
+    ensures { λ r. ⌜ r ≡ boxFrom (now (table .entry)) (2 * half) ⌝ }
 {
     if 1015 < half {
         return FlowBox::Halt;

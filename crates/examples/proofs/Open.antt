@@ -11,8 +11,8 @@ use Rattle.convert.specs.Convert.{takes, checkChart, checkAfter, conversionBy, 
 use Rattle.rewrite.specs.Rewrite.{copyAlike, isReplaced, choiceOf, rewrittenBox, rewritten}
 use Rattle.operations.specs.Operation.{readBy, valueOfLeft, sum, difference, quotient, remainder, valueOfBoth, valueOf, compares, chosen}
 use Rattle.marks.specs.Marks.{modeOf, union}
-use Rattle.decode.specs.Decode.{decode, boxAt, meaning}
-use Rattle.machine.specs.Act.{act}
+use Rattle.decode.specs.Decode.{decode, boxFrom, meaning}
+use Rattle.machine.specs.Act.{actBy}
 use Rattle.machine.specs.Run.{goesOn, settle, onward, run, kept}
 use Rattle.begin.specs.Begin.{effective, firstVars, withheldMark, withheldMarks, firstMarks}
 use Rattle.calls.specs.Calls.{fileVerdict, check}
@@ -42,7 +42,7 @@ unfolding files-open tables-open takes checkChart checkAfter conversionBy conver
 conversions-open = tt
 
 unfoldable pub values-open : Unit {0}
-unfolding decode boxAt meaning readBy valueOfLeft trailingZeros sum difference quotient remainder valueOfBoth valueOf compares chosen
+unfolding decode boxFrom meaning readBy valueOfLeft trailingZeros sum difference quotient remainder valueOfBoth valueOf compares chosen
 values-open = tt
 
 unfoldable pub marks-open : Unit {0}
@@ -50,7 +50,7 @@ unfolding modeOf union
 marks-open = tt
 
 unfoldable pub boxes-open : Unit {0}
-unfolding values-open marks-open act goesOn settle onward run kept
+unfolding values-open marks-open actBy goesOn settle onward run kept
 boxes-open = tt
 
 unfoldable pub begins-open : Unit {0}

@@ -21,12 +21,16 @@ entries numbers reads = map (entry numbers) reads
 abbrev pub noticeOr : Mode → (marks : ℕ) → Act → Act
 noticeOr mode marks other = cond (marked marks) (Notice (namedBy mode marks)) other
 
--- The act of a box, by the mode, the variables, their marks and the counter mark. It stores a value and a mark, goes to a box with a counter mark,
--- or ends the run.
-unfoldable pub act : Mode → Box → (vars marks : List ℕ) → ℕ → Act
-act mode (assigns target reads gives next) vars marks counter =
-    Store target (gives (entries vars reads)) (targetMark mode (entry marks target) (union (entries marks reads))) next
-act mode (decides reads holds next other) vars marks counter =
+-- The act of a box, by the mode, the variables, their marks and the counter mark, and by how an assignment sets its target's mark, of the mark before and the marks read. It
+-- stores a value and a mark, goes to a box with a counter mark, or ends the run.
+unfoldable pub actBy : (sets : (before read : ℕ) → ℕ) → Mode → Box → (vars marks : List ℕ) → ℕ → Act
+actBy sets mode (assigns target reads gives next) vars marks counter =
+    Store target (gives (entries vars reads)) (sets (entry marks target) (union (entries marks reads))) next
+actBy sets mode (decides reads holds next other) vars marks counter =
     let read = union (entries marks reads) in
     noticeOr mode (decisionNotice mode read) (Go (cond (holds (entries vars reads)) next other) (counterMark mode counter read))
-act mode halts vars marks counter = noticeOr mode (haltNotice mode counter (entry marks 31)) (Value (entry vars 31))
+actBy sets mode halts vars marks counter = noticeOr mode (haltNotice mode counter (entry marks 31)) (Value (entry vars 31))
+
+-- The act of a box by the rules: an assignment sets its target's mark as the mode's rule has it.
+abbrev pub act : Mode → Box → (vars marks : List ℕ) → ℕ → Act
+act mode = actBy (targetMark mode) mode

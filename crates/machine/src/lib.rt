@@ -2,13 +2,12 @@
 use decode::FlowBox;
 use marks::Mode;
 use marks::Numbers;
-ghost use Prim.Native.Nat.{_^_, _<_};
 ghost use mathlib.Core.Path.{_≡_};
 ghost use mathlib.Core.List.{[], _∷_};
 ghost use Rattle.operations.specs.Operation.{readBy, valueOf, chosen};
 ghost use Rattle.decode.specs.Decode.{meaning};
-ghost use Rattle.marks.specs.Marks.{union, targetMark, numbersOf};
-ghost use Rattle.machine.specs.Act.{entry, entries, act};
+ghost use Rattle.marks.specs.Marks.{union, setBy};
+ghost use Rattle.machine.specs.Act.{entry, entries, actBy};
 
 // It stores a value and a mark, it goes to a box with a counter mark, or it ends the run with a value or with a notice that names these inputs.
 pub enum Act {
@@ -64,16 +63,16 @@ fn operate(edition: u8, op: u8, constant: u32, left: Marked, right: Marked) -> M
     }
 }
 
-// A value with a mark. That it is of 16 inputs is promised, since on those alone the arithmetic that sets a mark is the rule of its mode.
+// A value with a mark.
 fn with_mark(value: u32, mark: u16) -> Marked
-    ensures { λ r. ⌜ (r .value ≡ value) × (r .mark ≡ mark) × (r .mark < 2 ^ 16) ⌝ }
+    ensures { λ r. ⌜ (r .value ≡ value) × (r .mark ≡ mark) ⌝ }
 {
     Marked { value, mark }
 }
 
 // The value and the mark of a variable, by its number.
 fn variable<'a>(vars: &'a [u32; 32], marks: &'a [u16; 32], v: u8) -> Marked
-    ensures { λ r. ⌜ (r .value ≡ entry (now (vars .entry)) v) × (r .mark ≡ entry (now (marks .entry)) v) × (r .mark < 2 ^ 16) ⌝ }
+    ensures { λ r. ⌜ (r .value ≡ entry (now (vars .entry)) v) × (r .mark ≡ entry (now (marks .entry)) v) ⌝ }
 {
     let i = (v % 32) as usize;
     with_mark(vars[i], marks[i])
@@ -105,7 +104,7 @@ fn choose<'a>(
     with_mark(vars[j], read)
 }
 
-// What a box that assigns does, of what it gives: it stores the value, and sets its target's mark by the numbers of the mode. Of other numbers nothing is promised.
+// What a box that assigns does, of what it gives: it stores the value, and sets its target's mark by the numbers. It is given no mode.
 fn store<'a>(
     numbers: Numbers,
     vars: &'a [u32; 32],
@@ -114,8 +113,7 @@ fn store<'a>(
     given: Marked,
     next: u8,
 ) -> Act
-    ensures { λ r.
-        ⌜ ((mode : Mode) → numbers ≡ numbersOf mode → r ≡ Act.Store target (given .value) (targetMark mode (entry (now (marks .entry)) target) (given .mark)) next) ⌝ }
+    ensures { λ r. ⌜ r ≡ Act.Store target (given .value) (setBy numbers (entry (now (marks .entry)) target) (given .mark)) next ⌝ }
 {
     let before = variable(vars, marks, target);
     let mark = marks::set_mark(numbers, before.mark, given.mark);
@@ -127,7 +125,7 @@ fn store<'a>(
     }
 }
 
-// What the box does, where the numbers are those of the mode; of others nothing is promised.
+// What the box does; an assignment sets its target's mark by the numbers. By those of the mode this is the box's act by the rules (`act`).
 pub fn run_box<'a>(
     edition: u8,
     mode: Mode,
@@ -137,7 +135,7 @@ pub fn run_box<'a>(
     marks: &'a [u16; 32],
     counter: u16,
 ) -> Act
-    ensures { λ r. ⌜ (numbers ≡ numbersOf mode → r ≡ act mode (meaning edition b) (now (vars .entry)) (now (marks .entry)) counter) ⌝ }
+    ensures { λ r. ⌜ r ≡ actBy (setBy numbers) mode (meaning edition b) (now (vars .entry)) (now (marks .entry)) counter ⌝ }
 {
     match b {
         FlowBox::Assign {

@@ -1,12 +1,12 @@
 -- Laws of the marks: a union is no mark exactly where each of its parts is none, `marked` tells which mark is one, and a rule by the mode has what its
 -- entries have; and the arithmetic that sets a mark is the rule of its mode. or-none, or-zeros; union-none; marked-none, none-marked, marked-or; by-mode, by-map;
--- set-surveillance, set-high-water, set-by-mode. Assumes nothing.
+-- set-surveillance, set-high-water, set-by-mode; set-sixteen. Assumes nothing.
 use Prim.Native.Nat.{ℕ, _^_, _<_}
 use mathlib.Core.Path.{_≡_, refl, sym, _∙_}
 use mathlib.Core.List.{List, _∷_}
 use mathlib.Core.Bool.{Bool, true, false, _||_}
 use native.Mathlib.Omega.{arith}
-use lib.Bits.{bitAnd, bitOr, or-add-and, or-comm, or-zero-l, or-zero-r, and-le-l, and-le-r, and-mask, and-zero-r}
+use lib.Bits.{bitAnd, bitOr, or-add-and, or-comm, or-zero-l, or-zero-r, and-le-l, and-le-r, or-lt, and-mask, and-zero-r}
 use borrow.Author.Tests.{eqb-true, eq-eqb, not-false}
 use Rattle.marks.specs.Marks.{marked, union, byMode, targetMark, setMark, numbersOf, setBy}
 use Rattle.marks.specs.declared.Mode.{Mode}
@@ -60,3 +60,10 @@ pub set-by-mode : (m : Mode) (before read : ℕ) → before < 2 ^ 16 → read < 
 set-by-mode Bare before read b r = rw (and-zero-r, or-zero-l, and-all before b)
 set-by-mode Surveillance before read b r = rw (and-all read r) (set-surveillance before read)
 set-by-mode HighWater before read b r = rw (and-all read r) (set-high-water before read b)
+
+-- By the numbers of a mode a mark is of 16 inputs, whatever is read.
+pub set-sixteen : (m : Mode) (before read : ℕ) → setBy (numbersOf m) before read < 2 ^ 16
+set-sixteen m before read =
+    let keep : numbersOf m .keep < 2 ^ 16 = by-mode (λ k x. x < 2 ^ 16) m 65535 0 65535 (omega arith) (omega arith) (omega arith) in
+    let take : numbersOf m .take < 2 ^ 16 = by-mode (λ k x. x < 2 ^ 16) m 0 65535 65535 (omega arith) (omega arith) (omega arith) in
+    or-lt 16 (bitAnd read (numbersOf m .take)) (bitAnd before (numbersOf m .keep)) (omega (arith, and-le-r read (numbersOf m .take))) (omega (arith, and-le-r before (numbersOf m .keep)))

@@ -7,7 +7,7 @@ use mathlib.Core.Bool.{Bool, true, false}
 use native.Mathlib.Omega.{arith}
 use lib.Dec.{leb}
 use lib.ListN.{length}
-use borrow.Author.Tests.{le-leb, lt-leb, leb-true, leb-false}
+use borrow.Author.Tests.{leb-true, leb-false}
 use Rattle.boxes.specs.Bytes.{at, boxOf}
 use Rattle.boxes.proofs.Places.{no-box}
 use Rattle.format.specs.declared.Header.{Header}
@@ -16,7 +16,8 @@ use Rattle.rewrite.proofs.Copies.{is-copy, alike-says, copy-below}
 use Rattle.rewrite.proofs.Replaced.{replaced-says, kept-box}
 use Rattle.chart_claims.proofs.Rewritten.{rewritten-by-places}
 use Rattle.operations.specs.Operation.{readBy, valueOfLeft, valueOf}
-use Rattle.decode.specs.Decode.{word, decode, boxAt, meaning, flow}
+use Rattle.decode.specs.Decode.{word, decode, meaning, flow}
+use Rattle.decode.proofs.Decoded.{box-here, box-past}
 use Rattle.marks.specs.Marks.{modeOf}
 use Rattle.marks.specs.declared.Mode.the-variants.{Bare}
 use Rattle.machine.specs.Run.{Run, valued, Progress, going, over, run}
@@ -32,28 +33,26 @@ BoxBecomes edition table p = Becomes (flow edition table) (flow edition (rewritt
 
 module _ (edition : ℕ) (table : List ℕ) (long : length table ≡ 2040) where
   copies : (p : ℕ) → isCopy (boxOf table p) ≡ true → Copies (at (boxOf table p) 1) (at (boxOf table p) 3) (at (boxOf table p) 5) (flow edition table p)
-  unfolding boxAt decode meaning readBy valueOf valueOfLeft
+  unfolding decode meaning readBy valueOf valueOfLeft
   copies p e =
       let b = boxOf table p in
       let c = is-copy b e in
       record {
         gives = valueOf edition 1 (word (at b 6) (at b 7) (at b 8) (at b 9));
-        is = rw (lt-leb 204 p (copy-below table long p e), c .0, c .1);
+        is = rw (box-here table p (copy-below table long p e), c .0, c .1);
         same = λ v. refl;
       }
 
   past-becomes : (p : ℕ) → 204 ≤ p → BoxBecomes edition table p
-  unfolding boxAt isReplaced
-  past-becomes p past = stays (ap (isReplaced table) (no-box table p (omega (arith, long)))) (rw (le-leb 204 p past))
+  unfolding isReplaced
+  past-becomes p past = stays (ap (isReplaced table) (no-box table p (omega (arith, long)))) (rw (box-past table p past, box-past (rewritten table) p past))
 
   module _ (p : ℕ) (below : p < 204) where
     old-flow : flow edition table p ≡ meaning edition (decode (boxOf table p))
-    unfolding boxAt
-    old-flow = rw (lt-leb 204 p below)
+    old-flow = rw (box-here table p below)
 
     new-flow : (b : List ℕ) → b ≡ rewrittenBox table p → flow edition (rewritten table) p ≡ meaning edition (decode b)
-    unfolding boxAt
-    new-flow b e = rw (lt-leb 204 p below, rewritten-by-places table long p below, e)
+    new-flow b e = rw (box-here (rewritten table) p below, rewritten-by-places table long p below, e)
 
     replaced-chooses : replacedAt table p ≡ true → Chooses (flow edition table) (flow edition (rewritten table)) p
     unfolding decode meaning choiceOf rewrittenBox

@@ -13,7 +13,7 @@ use Rattle.operations.specs.Operation.{compares, chosen}
 use Rattle.decode.specs.Decode.{Box, assigns, decides}
 use Rattle.marks.specs.Marks.{modeOf}
 use Rattle.marks.specs.declared.Mode.the-variants.{Bare}
-use Rattle.machine.specs.Act.{entry, entries, act}
+use Rattle.machine.specs.Act.{entry, entries, actBy}
 use Rattle.machine.specs.Run.{Run, Ending, valued, Progress, going, over, moved, goesOn, settle, step, onward, run}
 use Rattle.machine.specs.declared.Act.{Act}
 use Rattle.machine.specs.declared.Act.the-variants.{Store, Go, Value, Notice}
@@ -59,7 +59,7 @@ copied q target from next =
 
 copy-step : (f : ℕ → Box) {target from next : ℕ} (q : Run) → modeOf (q .mode) ≡ Bare → Copies target from next (f (q .at))
     → step f q ≡ goesOn (copied q target from next)
-unfolding settle act
+unfolding settle actBy
 copy-step f q bare c = rw (bare, c .is, c .same)
 
 entry-of-either : (b : Bool) (vars : List ℕ) (one other : ℕ) → cond b (entry vars one) (entry vars other) ≡ entry vars (cond b one other)
@@ -77,11 +77,11 @@ module _ {f f′ : ℕ → Box} (q : Run) (bare : modeOf (q .mode) ≡ Bare) (c 
   holds = compares (c .comparison) (entries (q .vars) (c .left ∷ c .right ∷ []))
 
   decision-step : step f q ≡ goesOn (decided q (cond holds (c .true-next) (c .false-next)))
-  unfolding settle act
+  unfolding settle actBy
   decision-step = rw (bare, c .decision)
 
   choice-step : step f′ q ≡ goesOn (copied q (c .target) (cond holds (c .one) (c .other)) (c .next))
-  unfolding settle act chosen compares
+  unfolding settle actBy chosen compares
   choice-step = rw (bare, c .choice, entry-of-either)
 
 none-run : (f : ℕ → Box) (some : ℕ → Bool) (m : ℕ) (e : Ending) (steps : ℕ) → boxesRun f some m (over e steps) ≡ 0

@@ -3,5 +3,7 @@ ghost use Rattle.rewrite_claims.specs.Rewriting.{RewritesHeld, FewerStep
 
 // The claims of this crate. A claim counts where a contract holds it: without this function the theorems could be deleted, and nothing would fail.
 pub fn promised()
-    ensures { λ _. ⌜ RewritesHeld × FewerSteps × RewritesWithinBounds ⌝ }
+    ensures { λ _. ⌜
+        RewritesHeld × FewerSteps × RewritesWithinBounds
+        ⌝ }
 {}

@@ -1,24 +1,36 @@
 -- The loop of advance: what the box at hand does, by the act that the code computed of it, how the run ends or goes on after it, and what advance
 -- leaves and tells where the loop is left. Assumes nothing.
-use Prim.Native.Nat.{ℕ, _+_, _-_, _^_, _<_, _≤_}
+use Prim.Native.Nat.{ℕ, zero, suc, _+_, _-_, _*_, _%_, _^_, _<_, _≤_}
 use mathlib.Core.Path.{_≡_, refl, ap, sym, _∙_, subst}
 use mathlib.Core.Logic.{_⊎_, inr, ⊎-elim}
-use mathlib.Core.List.{List, []}
+use mathlib.Core.List.{List, [], _∷_, map}
 use mathlib.Core.Bool.{Bool, false, cond}
 use native.Mathlib.Omega.{arith}
 use lib.Dec.{eqb}
+use lib.ListN.{set}
+use mir.Val.{Val}
+use denote.Laws.{Is}
+use denote.Shadow.{shadow}
+use denote.Array.{each}
+use denote.Struct.Field.{u16-field}
+use denote.Struct.Declared.{row}
+use denote.Struct.Laws.{val}
 use borrow.Author.Tests.{le-leb, lt-leb}
-use Rattle.decode.specs.Decode.{boxAt, Box, meaning}
+use Rattle.decode.specs.Decode.{boxFrom, boxAt, Box, meaning}
+use Rattle.decode.proofs.Decoded.{Finds}
 use Rattle.decode.specs.declared.FlowBox.{FlowBox}
 use Rattle.format.specs.declared.Refusal.{Refusal}
-use Rattle.marks.specs.Marks.{modeOf, hides}
+use Rattle.marks.specs.Marks.{modeOf, numbersOf, setBy, hides}
+use Rattle.marks.specs.declared.Numbers.{Numbers}
 use Rattle.marks.specs.declared.Mode.{Mode}
 use Rattle.marks.specs.declared.Mode.the-variants.{Bare, Surveillance, HighWater}
-use Rattle.machine.specs.Act.{act}
+use Rattle.machine.specs.Act.{actBy, act}
 use Rattle.machine.specs.Run.{Run, Ending, valued, notice, spent, Progress, going, over, moved, goesOn, settle, step, run, kept}
 use Rattle.machine.specs.declared.Act.{Act}
+use Rattle.machine.specs.declared.Act.the-variants.{Store}
+use Rattle.machine.proofs.Acts.{SixteenInputs, sixteen-set, act-by-numbers, StoresSixteen, stores-sixteen}
 use Rattle.machine.proofs.Runs.{over-still, run-one, kept-by}
-use Rattle.calls.specs.Calls.{check}
+use Rattle.calls.specs.Calls.{byVerdict, check}
 use Rattle.calls.specs.Calls as calls
 use Rattle.calls.specs.declared.Verdict.{Verdict}
 use Rattle.calls.specs.declared.Verdict.the-variants.{Done, Refused}
@@ -29,6 +41,8 @@ use Rattle.runner.specs.State.{chartIn, standingOf, stateOf, valueIn, na
 use Rattle.runner.specs.Outcomes.{outcome, progressReply, call}
 use Rattle.runner.specs.Outcomes as outcomes
 use Rattle.runner.specs.Replies.{advanceReply}
+use Rattle.runner.proofs.Runner.{the-type}
+use Rattle.runner.proofs.Runner.Laws.{the-laws}
 use Rattle.runner.proofs.Outcomes.{advance-runs, advance-refuses}
 
 -- The run in a runner, at another box after other steps, as the loop keeps them.
@@ -49,18 +63,48 @@ pub stored-more : (r s q : Runner) (vars marks : List ℕ) (counter : ℕ) → S
 stored-more r s q vars marks counter h e =
     subst (Stored r) (sym (e ∙ ap (λ (x : Runner). placed x vars marks counter) h)) refl
 
--- The box at hand of a runner s that has come from r, and the act that the code computed of it.
-pub acts : (s r : Runner) (edition : ℕ) (mode : Mode) (at steps : ℕ) (b : FlowBox) (a : Act) → Stored r s → edition ≡ r .header .edition → mode ≡ modeOf (r .mode)
-    → b ≡ boxAt (s .table) at → a ≡ act mode (meaning edition b) (s .vars) (s .marks) (s .counter)
+-- The box at hand of a runner s that has come from r, by the half of its number, and the act that the code computed of it by the numbers of the mode.
+pub acts : (s r : Runner) (edition : ℕ) (mode : Mode) (numbers : Numbers) (at half steps : ℕ) (b : FlowBox) (a : Act) → Stored r s → SixteenInputs (s .marks)
+    → edition ≡ r .header .edition → mode ≡ modeOf (r .mode) → numbers ≡ numbersOf mode → Finds half at
+    → b ≡ boxFrom (s .table) (2 * half) → a ≡ actBy (setBy numbers) mode (meaning edition b) (s .vars) (s .marks) (s .counter)
     → (x : Act) → a ≡ x → step (flowIn r) (seen s at steps) ≡ settle x (seen s at steps)
-acts s r edition mode at steps b a h ee em eb ea x d =
+acts s r edition mode numbers at half steps b a h small ee em en found from by x d =
     let q = seen s at steps in
+    let eb = from ∙ found (s .table) in
+    let ea =
+    by
+    ∙ ap (λ (n : Numbers). actBy (setBy n) mode (meaning edition b) (s .vars) (s .marks) (s .counter)) en
+    ∙ act-by-numbers mode (s .marks) small (meaning edition b) (s .vars) (s .counter) in
     ap (λ (y : Runner). settle (act (modeOf (s .mode)) (meaning (r .header .edition) (boxAt (y .table) at)) (q .vars) (q .marks) (q .counter)) q) (sym h)
     ∙ ap (λ (y : Runner). settle (act (modeOf (y .mode)) (meaning (r .header .edition) (boxAt (s .table) at)) (q .vars) (q .marks) (q .counter)) q) h
     ∙ ap (λ (k : Mode). settle (act k (meaning (r .header .edition) (boxAt (s .table) at)) (q .vars) (q .marks) (q .counter)) q) (sym em)
     ∙ ap (λ (n : ℕ). settle (act mode (meaning n (boxAt (s .table) at)) (q .vars) (q .marks) (q .counter)) q) (sym ee)
     ∙ ap (λ (y : FlowBox). settle (act mode (meaning edition y) (q .vars) (q .marks) (q .counter)) q) (sym eb)
     ∙ ap (λ (y : Act). settle y q) (sym ea ∙ d)
+
+-- What a box stores leaves every mark of 16 inputs.
+pub stays-sixteen : (s : Runner) (mode : Mode) (numbers : Numbers) (b : Box) (a : Act) → SixteenInputs (s .marks) → numbers ≡ numbersOf mode
+    → a ≡ actBy (setBy numbers) mode b (s .vars) (s .marks) (s .counter)
+    → (t v m next : ℕ) → a ≡ Store t v m next → SixteenInputs (set (s .marks) (t % 32) m)
+stays-sixteen s mode numbers b a small en ea t v m next d =
+    sixteen-set (s .marks) (t % 32) m small
+    (subst StoresSixteen
+    (ap (λ (n : Numbers). actBy (setBy n) mode b (s .vars) (s .marks) (s .counter)) (sym en) ∙ sym ea ∙ d)
+    (stores-sixteen mode b (s .vars) (s .marks) (s .counter)))
+
+-- What the type of a runner says of its steps and marks: what owning the runner tells has a part for each field, and of an array a part for each element.
+each-sixteen : (xs : List ℕ) (us : List Val) → shadow (each (u16-field .row .Denot) (u16-field .row .own) (map (u16-field .into) xs) us) → SixteenInputs xs
+each-sixteen [] us p v = omega arith
+each-sixteen (x ∷ xs) [] p v = absurd p
+each-sixteen (x ∷ xs) (u ∷ us) p zero = p .0 .1
+each-sixteen (x ∷ xs) (u ∷ us) p (suc v) = each-sixteen xs us (p .1) v
+
+module _ (r : Runner) (p : Is (row the-type) r (val the-type the-laws r ∷ [])) where
+  pub steps-fit : r .steps < 2 ^ 16
+  steps-fit = p .1 .1 .1 .1 .1 .1 .1 .1 .0 .1
+
+  pub marks-sixteen : SixteenInputs (r .marks)
+  marks-sixteen = each-sixteen (r .marks) _ (p .1 .1 .1 .1 .1 .1 .1 .1 .1 .1 .1 .1 .1 .1 .0 .1 .1)
 
 -- A box that does not end the run has left s, and goes to a box.
 pub left : (flow : ℕ → Box) (r s : Runner) (from steps : ℕ) (vars marks : List ℕ) (counter to at : ℕ) → s ≡ placed r vars marks counter → at ≡ to
@@ -182,9 +226,8 @@ module _ (m todo : ℕ) (r s next : Runner) (at end value named steps : ℕ) (to
       came
 
   pub advance-came : (verdict : Verdict) → verdict ≡ check (calls.advance m) (standingOf r)
-      → (verdict ≡ Done → todo ≡ m) × ((x : Refusal) → verdict ≡ Refused x → todo ≡ 0)
-      → (verdict ≡ Done → advanceReply told ≡ cond (eqb end 1) (outcomes.running steps) (outcomes.ended (cond hidden 0 steps)))
-      × ((x : Refusal) → verdict ≡ Refused x → advanceReply told ≡ outcomes.turnedAway x)
+      → todo ≡ byVerdict verdict m (λ x. 0)
+      → advanceReply told ≡ byVerdict verdict (cond (eqb end 1) (outcomes.running steps) (outcomes.ended (cond hidden 0 steps))) outcomes.turnedAway
       → outcome (advanceReply told) [] next ≡ call (calls.advance m) r
-  advance-came Done e boxes t = came-running (sym e) (boxes .0 refl) (t .0 refl)
-  advance-came (Refused x) e boxes t = came-resting x (sym e) (boxes .1 x refl) (t .1 x refl)
+  advance-came Done e boxes t = came-running (sym e) boxes t
+  advance-came (Refused x) e none t = came-resting x (sym e) none t

@@ -9,7 +9,7 @@ use Rattle.chart.specs.Chart.{Chart}
 use Rattle.decode.specs.Decode.{Box, flow}
 use Rattle.marks.specs.Marks.{modeOf, hides}
 use Rattle.machine.specs.Run.{Run, Ending, valued, notice, spent, Progress, going, over, run, kept}
-use Rattle.calls.specs.Calls.{Standing}
+use Rattle.calls.specs.declared.Standing.{Standing}
 use Rattle.runner.specs.declared.Runner.{Runner}
 
 -- The chart in a runner. It holds one where the header's numbers of inputs and boxes and its first box are those of a file; a new runner's are 0.

@@ -1,4 +1,5 @@
 // The runner and its seven calls.
+use calls::Standing;
 use calls::Verdict;
 use chart::Written;
 use format::Checked;
@@ -8,10 +9,10 @@ use machine::Act;
 ghost use mathlib.Core.Path.{_≡_};
 ghost use mathlib.Core.Bool.{cond};
 ghost use mathlib.Core.List.{[]};
-ghost use lib.Dec.{eqb};
+ghost use lib.Dec.{eqb, leb};
 ghost use Rattle.format.specs.File.{refusal};
-ghost use Rattle.calls.specs.declared.Verdict.the-variants.{Done, Refused};
-ghost use Rattle.calls.specs.Calls.{load, begin, advance, answer, abandon, writeBack, rewrite};
+ghost use Rattle.marks.specs.Marks.{modeOf, hides};
+ghost use Rattle.calls.specs.Calls.{load, begin, advance, answer, abandon, writeBack, rewrite, byVerdict};
 ghost use Rattle.runner.specs.State.{newRunner, dropped};
 ghost use Rattle.runner.specs.Outcomes.{outcome, turnedAway, call};
 ghost use Rattle.runner.specs.Outcomes as outcomes;
@@ -158,7 +159,8 @@ impl Runner {
         ensures { λ r. ⌜ outcome (verdictReply (r .told)) [] (r .runner) ≡ call (begin mode (now (inputs .entry)) allowed limit) self ⌝ }
     {
         let header = self.header;
-        let told = calls::check_begin(header, self.state == 1, mode, inputs, allowed, limit);
+        let standing = standing_of(header, self.state, self.mode, self.limit);
+        let told = calls::check_begin(standing, mode, inputs, allowed, limit);
         match told {
             Verdict::Done => {
                 let vars = begin::first_vars(inputs);
@@ -184,11 +186,12 @@ impl Runner {
     pub fn advance(mut self, m: u32) -> Advanced
         ensures { λ r. ⌜ outcome (advanceReply (r .told)) [] (r .runner) ≡ call (advance m) self ⌝ }
     {
+        let standing = standing_of(self.header, self.state, self.mode, self.limit);
+        let verdict = calls::check_advance(standing, m);
         let limit = self.limit as u32;
         let mode = marks::mode_of(self.mode);
         let numbers = marks::numbers_of(mode);
         let hidden = marks::hides(mode);
-        let verdict = calls::check_advance(self.state == 1, choose(hidden, limit, 0), m);
         let mut todo = amount(verdict, m);
         let mut at = self.at;
         let mut half = decode::first_half(at);
@@ -308,7 +311,8 @@ impl Runner {
         ensures { λ r. ⌜ outcome (writtenReply r) (now (buf .exit)) self ≡ call (writeBack (now (buf .entry))) self ⌝ }
     {
         let header = self.header;
-        let verdict = calls::check_write_back(header, buf.len());
+        let standing = standing_of(header, self.state, self.mode, self.limit);
+        let verdict = calls::check_write_back(standing, buf);
         match verdict {
             Verdict::Done => {
                 chart::put_file(header, &self.table, buf);
@@ -323,7 +327,7 @@ impl Runner {
         ensures { λ r. ⌜ outcome (verdictReply (r .told)) [] (r .runner) ≡ call rewrite self ⌝ }
     {
         let header = self.header;
-        let told = calls::check_rewrite(header, self.state == 1);
+        let told = calls::check_rewrite(standing_of(header, self.state, self.mode, self.limit));
         match told {
             Verdict::Done => {
                 rewrite::rewrite(&mut self.table);
@@ -332,6 +336,20 @@ impl Runner {
             }
             Verdict::Refused(_) => Changed { told, runner: self },
         }
+    }
+}
+
+// What the refusals look at of a runner, by its header, state, mode and limit.
+fn standing_of(header: Header, state: u8, mode: u8, limit: u16) -> Standing
+    ensures { λ r. ⌜ r ≡ record { header = header; running = eqb state 1; least = cond (hides (modeOf mode)) limit 0; ended = leb 2 state } ⌝ }
+{
+    let hidden = marks::hides(marks::mode_of(mode));
+    let least = choose(hidden, limit as u32, 0);
+    Standing {
+        header,
+        running: state == 1,
+        least,
+        ended: 2 <= state,
     }
 }
 
@@ -344,7 +362,7 @@ fn choose(b: bool, yes: u32, no: u32) -> u32
 
 // How many boxes an advance by m may run, by the verdict on it.
 fn amount(verdict: Verdict, m: u32) -> u32
-    ensures { λ r. ⌜ (verdict ≡ Done → r ≡ m) × ((x : Refusal) → verdict ≡ Refused x → r ≡ 0) ⌝ }
+    ensures { λ r. ⌜ r ≡ byVerdict verdict m (λ x. 0) ⌝ }
 {
     match verdict {
         Verdict::Done => m,
@@ -380,8 +398,7 @@ fn kept(hidden: bool, state: u8, took: u32, named: u16) -> Remains
 // What advance tells by the verdict on it, of a run that has come to state `end` where it was accepted.
 fn tell(verdict: Verdict, hidden: bool, end: u8, steps: u32) -> AdvanceTold
     ensures { λ r.
-        ⌜ (verdict ≡ Done → advanceReply r ≡ cond (eqb end 1) (outcomes.running steps) (outcomes.ended (cond hidden 0 steps)))
-        × ((x : Refusal) → verdict ≡ Refused x → advanceReply r ≡ turnedAway x) ⌝ }
+        ⌜ advanceReply r ≡ byVerdict verdict (cond (eqb end 1) (outcomes.running steps) (outcomes.ended (cond hidden 0 steps))) turnedAway ⌝ }
 {
     match verdict {
         Verdict::Done => {

@@ -10,16 +10,16 @@ refuse-requires : tie.Need-refuse-requires
 refuse-requires c κs = search needs
 
 returns : tie.Need-returns
-returns c = λ s er el. c .refuse .ensures ∙ tells-no-run _ _ _ (not-true _ (c .before .if1 .taken)) s er el
+returns c = c .refuse .ensures ∙ tells-no-run _ _ (not-true _ (c .before .if1 .taken))
 
 refuse-requires-2 : tie.Need-refuse-requires-2
 refuse-requires-2 c κs = search needs
 
 returns-2 : tie.Need-returns-2
-returns-2 c = λ s er el. c .refuse2 .ensures ∙ tells-less _ _ _ (not-false _ (c .before .before .if1 .left)) (c .before .if2 .taken) s er el
+returns-2 c = c .refuse2 .ensures ∙ tells-less _ _ (not-false _ (c .before .before .before .if1 .left)) (c .before .if2 .taken)
 
 returns-3 : tie.Need-returns-3
-returns-3 c = tells-enough _ _ _ (not-false _ (c .before .if1 .left)) (c .if2 .left)
+returns-3 c = tells-enough _ _ (not-false _ (c .before .before .if1 .left)) (c .if2 .left)
 
 pub check-advance-spec : {M : Type 1} → statement M
 check-advance-spec =

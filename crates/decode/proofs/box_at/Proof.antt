@@ -1,14 +1,12 @@
 -- `box_at` branches where the definition does; each byte of the box is read where the definition reads it, and the number of the next box before the kind is asked for.
-use borrow.Author.Tests.{le-leb}
-use Rattle.decode.specs.Decode.{boxAt}
-use Rattle.decode.proofs.Decoded.{past-places, in-places, assign-at, decide-at, choose-at, halt-at}
+use native.Mathlib.Omega.{arith}
+use Rattle.decode.proofs.Decoded.{assign-at, decide-at, choose-at, halt-at, from-past}
 use borrow.Author.Needs.{needs}
 use Rattle.decode.proofs.box_at.Statement.{statement}
 use Rattle.decode.proofs.box_at.Tie as tie
 
 returns : tie.Need-returns
-unfolding boxAt
-returns c = λ p h. rw (le-leb 204 p (past-places p _ h (c .if1 .taken)))
+returns c = from-past _ _ (omega (arith, c .if1 .taken))
 
 mul-i : tie.Need-mul-i
 mul-i c = search needs
@@ -77,8 +75,7 @@ returns-2 : tie.Need-returns-2
 returns-2 c =
     let w = c .before .before .before .before in
     let two = w .before .before .before .before .before in
-    λ p h. let is = in-places p _ h (two .before .before .before .if1 .left) in
-    assign-at _ p (is .0) _ (is .1) _ (two .if2 .taken) (w .word .ensures)
+    assign-at _ _ (omega (arith, two .before .before .before .if1 .left)) _ (two .if2 .taken) (w .word .ensures)
 
 add-t38 : tie.Need-add-t38
 add-t38 c = search needs
@@ -107,8 +104,7 @@ element-copy-out-t53 c = search needs
 returns-3 : tie.Need-returns-3
 returns-3 c =
     let three = c .before .before .before .before in
-    λ p h. let is = in-places p _ h (three .before .before .before .before .if1 .left) in
-    decide-at _ p (is .0) _ (is .1) (three .if3 .taken)
+    decide-at _ _ (omega (arith, three .before .before .before .before .if1 .left)) (three .if3 .taken)
 
 add-t54 : tie.Need-add-t54
 add-t54 c = search needs
@@ -149,13 +145,11 @@ element-copy-out-t77 c = search needs
 returns-4 : tie.Need-returns-4
 returns-4 c =
     let four = c .before .before .before .before .before .before in
-    λ p h. let is = in-places p _ h (four .before .before .before .before .before .if1 .left) in
-    choose-at _ p (is .0) _ (is .1) (four .if4 .taken)
+    choose-at _ _ (omega (arith, four .before .before .before .before .before .if1 .left)) (four .if4 .taken)
 
 returns-5 : tie.Need-returns-5
 returns-5 c =
-    λ p h. let is = in-places p _ h (c .before .before .before .before .before .if1 .left) in
-    halt-at _ p (is .0) _ (is .1) (c .before .before .if2 .left) (c .before .if3 .left) (c .if4 .left)
+    halt-at _ _ (omega (arith, c .before .before .before .before .before .if1 .left)) (c .before .before .if2 .left) (c .before .if3 .left) (c .if4 .left)
 
 pub box-at-spec : {M : Type 1} → statement M
 box-at-spec =

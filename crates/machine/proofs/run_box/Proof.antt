@@ -1,4 +1,4 @@
--- `run_box` branches where `act` does, and each branch returns the act of its kind, where the numbers are those of the mode.
+-- `run_box` branches where `act` does, and each branch returns the act of its kind.
 use Rattle.machine.proofs.Acts.{assign-act, choose-act, notice-act, go-act, halt-notice-act, halt-value-act}
 use borrow.Author.Needs.{needs}
 use Rattle.machine.proofs.run_box.Statement.{statement}
@@ -35,10 +35,10 @@ named-by-requires : tie.Need-named-by-requires
 named-by-requires c κs = search needs
 
 returns : tie.Need-returns
-returns c e =
+returns c =
     let noticed = c .before .before in
     let read = noticed .before .before .before in
-    notice-act _ _ _ _ _ _ _ _ _ _ _ _ _ _ (read .before .before .before .b2 .given .1) (read .before .variable3 .ensures) (read .variable4 .ensures)
+    notice-act _ _ _ _ _ _ _ _ _ _ _ _ _ _ _ (read .before .before .before .b2 .given .1) (read .before .variable3 .ensures) (read .variable4 .ensures)
     (noticed .decision-notice .ensures) _ (c .before .if1 .taken) (c .named-by .ensures)
 
 compare-requires : tie.Need-compare-requires
@@ -48,11 +48,11 @@ counter-mark-requires : tie.Need-counter-mark-requires
 counter-mark-requires c κs = search needs
 
 returns-2 : tie.Need-returns-2
-returns-2 c e =
+returns-2 c =
     let marked = c .before in
     let tested = marked .before .before in
     let read = tested .before .before .before .before in
-    go-act _ _ _ _ _ _ _ _ _ _ _ _ _ _ (read .before .before .before .b2 .given .1) (read .before .variable3 .ensures) (read .variable4 .ensures)
+    go-act _ _ _ _ _ _ _ _ _ _ _ _ _ _ _ (read .before .before .before .b2 .given .1) (read .before .variable3 .ensures) (read .variable4 .ensures)
     (tested .before .decision-notice .ensures) _ _ _ (tested .if1 .left) (marked .counter-mark .ensures) (marked .before .compare .ensures) (rw (c .if2 .taken))
 
 enum-told : tie.Need-enum-told
@@ -68,9 +68,9 @@ named-by-requires-2 : tie.Need-named-by-requires-2
 named-by-requires-2 c κs = search needs
 
 returns-3 : tie.Need-returns-3
-returns-3 c e =
+returns-3 c =
     let noticed = c .before .before in
-    halt-notice-act _ _ _ _ _ _ _ _ (noticed .before .before .enum-told .given .1) (noticed .before .variable5 .ensures) (noticed .halt-notice .ensures) _
+    halt-notice-act _ _ _ _ _ _ _ _ _ (noticed .before .before .enum-told .given .1) (noticed .before .variable5 .ensures) (noticed .halt-notice .ensures) _
     (c .before .if3 .taken) (c .named-by2 .ensures)
 
 enum-known-b-3 : tie.Need-enum-known-b-3
@@ -83,28 +83,28 @@ store-requires-2 : tie.Need-store-requires-2
 store-requires-2 c κs = search needs
 
 returns-4 : tie.Need-returns-4
-returns-4 c e =
+returns-4 c =
     let given = c .before in
-    assign-act _ _ _ _ _ _ _ _ _ _ _ _ _ _ _ _ (given .before .before .before .before .b .given .1) (given .before .before .variable .ensures) (given .before .variable2 .ensures)
-    (given .operate .ensures) (c .store .ensures (given .before .before .before .before .before .before .args .mode) e)
+    assign-act _ _ _ _ _ _ _ _ _ _ _ _ _ _ _ _ _ (given .before .before .before .before .b .given .1) (given .before .before .variable .ensures) (given .before .variable2 .ensures)
+    (given .operate .ensures) (c .store .ensures)
 
 returns-5 : tie.Need-returns-5
-returns-5 c e =
+returns-5 c =
     let marked = c .before in
     let tested = marked .before .before in
     let read = tested .before .before .before .before in
-    go-act _ _ _ _ _ _ _ _ _ _ _ _ _ _ (read .before .before .before .b2 .given .1) (read .before .variable3 .ensures) (read .variable4 .ensures)
+    go-act _ _ _ _ _ _ _ _ _ _ _ _ _ _ _ (read .before .before .before .b2 .given .1) (read .before .variable3 .ensures) (read .variable4 .ensures)
     (tested .before .decision-notice .ensures) _ _ _ (tested .if1 .left) (marked .counter-mark .ensures) (marked .before .compare .ensures) (rw (c .if2 .left))
 
 returns-6 : tie.Need-returns-6
-returns-6 c e =
+returns-6 c =
     let noticed = c .before in
-    halt-value-act _ _ _ _ _ _ _ _ (noticed .before .before .enum-told .given .1) (noticed .before .variable5 .ensures) (noticed .halt-notice .ensures) (c .if3 .left)
+    halt-value-act _ _ _ _ _ _ _ _ _ (noticed .before .before .enum-told .given .1) (noticed .before .variable5 .ensures) (noticed .halt-notice .ensures) (c .if3 .left)
 
 returns-7 : tie.Need-returns-7
-returns-7 c e =
-    choose-act _ _ _ _ _ _ _ _ _ _ _ _ _ _ _ (c .before .before .before .b3 .given .1) (c .before .choose .ensures)
-    (c .store2 .ensures (c .before .before .before .before .before .args .mode) e)
+returns-7 c =
+    choose-act _ _ _ _ _ _ _ _ _ _ _ _ _ _ _ _ (c .before .before .before .b3 .given .1) (c .before .choose .ensures)
+    (c .store2 .ensures)
 
 pub run-box-spec : {M : Type 1} → statement M
 run-box-spec =

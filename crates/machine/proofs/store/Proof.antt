@@ -1,6 +1,5 @@
--- `store` sets the mark by the numbers, which is the rule of the mode that they are of.
+-- `store` sets the mark by the numbers, of the mark that its target has.
 use borrow.Author.Needs.{needs}
-use Rattle.machine.proofs.Acts.{store-as-ruled}
 use Rattle.machine.proofs.store.Statement.{statement}
 use Rattle.machine.proofs.store.Tie as tie
 
@@ -11,7 +10,7 @@ set-mark-requires : tie.Need-set-mark-requires
 set-mark-requires c κs = search needs
 
 returns : tie.Need-returns
-returns c = λ mode e. let read = c .before .variable .ensures in store-as-ruled mode _ _ _ _ _ _ _ _ e (read .1) (read .2) (search needs) (c .set-mark .ensures)
+returns c = rw (c .set-mark .ensures, c .before .variable .ensures .1)
 
 pub store-spec : {M : Type 1} → statement M
 store-spec = tie.close (tie.spec variable-requires set-mark-requires returns)

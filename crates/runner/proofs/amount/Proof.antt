@@ -1,7 +1,5 @@
 -- `amount` branches where its promise does.
-use mathlib.Core.Path.{refl, sym, _∙_}
 use borrow.Author.Needs.{needs}
-use Rattle.calls.proofs.Permits.{not-done}
 use Rattle.runner.proofs.amount.Statement.{statement}
 use Rattle.runner.proofs.amount.Tie as tie
 
@@ -12,10 +10,10 @@ enum-told-2 : tie.Need-enum-told-2
 enum-told-2 c = search needs
 
 returns : tie.Need-returns
-returns c = ((λ e. refl), (λ x e. not-done (sym e ∙ c .enum-told .given .1)))
+returns c = rw (c .enum-told .given .1)
 
 returns-2 : tie.Need-returns-2
-returns-2 c = ((λ e. not-done (sym (c .enum-told2 .given .1) ∙ e)), (λ x e. refl))
+returns-2 c = rw (c .enum-told2 .given .1)
 
 pub amount-spec : {M : Type 1} → statement M
 amount-spec = tie.close (tie.spec enum-told enum-told-2 returns returns-2)

@@ -1,25 +1,26 @@
 -- The loop's invariant: the boxes still to run, from here, come to what the boxes asked for come to from the start; the runner differs from the one
--- at the start in what boxes store alone, no ending is met, the numbers are those of the mode, and `half` is half of where the box at hand begins.
+-- at the start in what boxes store alone, no ending is met, the numbers are those of the mode, the box at hand is found by `half`, and the marks are of 16 inputs.
 -- Where the arms of a box that does not end the run meet, one law says what it left.
-use mathlib.Core.Path.{_≡_, refl, ap, sym, _∙_}
+use mathlib.Core.Path.{_≡_, refl, ap, sym, _∙_, subst}
 use mathlib.Core.Logic.{⊎-elim, inl}
-use mathlib.Core.Bool.{Bool, cond}
 use Prim.Native.Nat.{_+_, _≤_, _<_, _^_}
 use native.Mathlib.Omega.{arith}
 use borrow.Author.Needs.{needs}
 use Rattle.marks.specs.Marks.{modeOf, numbersOf, hides}
-use Rattle.decode.specs.Decode.{HalfOf}
+use Rattle.decode.proofs.Decoded.{Finds, half-finds, first-half-finds}
 use Rattle.machine.specs.Run.{valued, notice, spent, going, goesOn, settle, step, run}
+use Rattle.machine.proofs.Acts.{SixteenInputs}
 use Rattle.machine.proofs.Runs.{run-none}
+use Rattle.calls.specs.Calls.{advance, check}
 use Rattle.runner.specs.declared.Runner.{Runner}
 use Rattle.runner.specs.declared.Remains.{Remains}
-use Rattle.runner.specs.State.{standingOf, runIn, flowIn}
-use Rattle.runner.proofs.Boxes.{seen, Stored, stored-more, acts, left, goes-spent, goes-further, turned, CameTo, came-over, no-ending, endsWith, advance-came}
+use Rattle.runner.specs.State.{runIn, flowIn}
+use Rattle.runner.proofs.Boxes.{seen, Stored, stored-more, acts, stays-sixteen, steps-fit, marks-sixteen, left, goes-spent, goes-further, turned, CameTo, came-over, no-ending, endsWith, advance-came}
 use Rattle.runner.proofs.Runner.advance.Statement.{statement}
 use Rattle.runner.proofs.Runner.advance.Tie as tie
 
 abbrev Inv-loop : tie.InvT-loop
-Inv-loop m self₀ limit mode numbers hidden verdict todo₀ at₀ half₀ steps₀ end₀ value₀ named₀ self todo at half steps end value named =
+Inv-loop m self₀ verdict limit mode numbers hidden todo₀ at₀ half₀ steps₀ end₀ value₀ named₀ self todo at half steps end value named =
     (run (flowIn self₀) todo₀ (going (runIn self₀)) ≡ run (flowIn self₀) todo (going (seen self at steps)))
     × (todo ≤ todo₀)
     × Stored self₀ self
@@ -31,45 +32,48 @@ Inv-loop m self₀ limit mode numbers hidden verdict todo₀ at₀ half₀ steps
     × (named ≡ 0)
     × (limit < 2 ^ 16)
     × (numbers ≡ numbersOf mode)
-    × HalfOf at half
+    × Finds half at
+    × SixteenInputs (self .marks)
 
 abbrev μ-loop : tie.MeasureT-loop
-μ-loop m self₀ limit mode numbers hidden verdict todo₀ at₀ half₀ steps₀ end₀ value₀ named₀ self todo at half steps end value named = todo
+μ-loop m self₀ verdict limit mode numbers hidden todo₀ at₀ half₀ steps₀ end₀ value₀ named₀ self todo at half steps end value named = todo
 
 -- Where the arms of a box that does not end the run meet: it goes on in what was stored.
 meets : (c : tie.At-match-came Inv-loop μ-loop) → let at-loop = c .before .before .before .before .before .before .before .before .before in
-    let l = at-loop .loop in let r = at-loop .before .before .before .before .before .before .before .before .args .t1 in
-    (step (flowIn r) (seen (l .self) (l .at) (l .steps)) ≡ goesOn (seen (c .match .self) (c .match .at) (l .steps + 1))) × Stored r (c .match .self) × HalfOf (c .match .at) (c .match .half)
+    let l = at-loop .loop in let r = at-loop .before .before .before .before .before .before .before .before .before .args .t1 in
+    (step (flowIn r) (seen (l .self) (l .at) (l .steps)) ≡ goesOn (seen (c .match .self) (c .match .at) (l .steps + 1))) × Stored r (c .match .self) × Finds (c .match .half) (c .match .at) × SixteenInputs (c .match .self .marks)
 unfolding settle
 meets c =
     let at-loop = c .before .before .before .before .before .before .before .before .before in
     let l = at-loop .loop in
-    let r = at-loop .before .before .before .before .before .before .before .before .args .t1 in
+    let r = at-loop .before .before .before .before .before .before .before .before .before .args .t1 in
     let stored = l .inv .2 in
     let box = c .before .before .before .before .before .box-at in
     let done = c .before .run-box in
-    let does = acts (l .self) r _ _ (l .at) (l .steps) (box .result) (done .result) stored (ap (λ (x : Runner). x .header .edition) stored) (l .inv .4) (box .ensures (l .at) (l .inv .11)) (done .ensures (l .inv .10)) in
+    let does = acts (l .self) r _ _ _ (l .at) (l .half) (l .steps) (box .result) (done .result) stored (l .inv .12) (ap (λ (x : Runner). x .header .edition) stored) (l .inv .4) (l .inv .10) (l .inv .11) (box .ensures) (done .ensures) in
     ⊎-elim
     (λ w. (
       left (flowIn r) (l .self) (c .match .self) (l .at) (l .steps) _ _ _ _ (c .match .at) (w .4) (w .5) (does _ (w .1 .given .1)),
       stored-more r (l .self) _ _ _ _ stored (w .4),
-      rw (w .5, w .6) (w .3 .ensures),
+      rw (w .5, w .6) (half-finds _ _ (w .3 .ensures)),
+      subst (λ (x : Runner). SixteenInputs (x .marks)) (sym (w .4)) (stays-sixteen (l .self) _ _ _ _ (l .inv .12) (l .inv .10) (done .ensures) _ _ _ _ (w .1 .given .1)),
     ))
     (λ w. (
       left (flowIn r) (l .self) (c .match .self) (l .at) (l .steps) _ _ _ _ (c .match .at) (w .4) (w .5) (does _ (w .1 .given .1)),
       stored-more r (l .self) _ _ _ _ stored (w .4),
-      rw (w .5, w .6) (w .3 .ensures),
+      rw (w .5, w .6) (half-finds _ _ (w .3 .ensures)),
+      subst (λ (x : Runner). SixteenInputs (x .marks)) (sym (w .4)) (l .inv .12),
     ))
     (c .match .came)
 
 -- Where the loop is left: no box is to run, a halt gives a value, a decision or a halt a notice, or the limit is reached.
-over : (c : tie.Left-loop Inv-loop μ-loop) → let q = c .loop-test in let a = c .before .before .before .before .before .before .before .before .before .args in
+over : (c : tie.Left-loop Inv-loop μ-loop) → let q = c .loop-test in let a = c .before .before .before .before .before .before .before .before .before .before .args in
     CameTo (flowIn (a .t1)) (c .before .before .before .amount .result) (runIn (a .t1)) (q .self) (q .at) (q .end) (q .value) (q .named) (q .steps) × Stored (a .t1) (q .self)
 unfolding settle
 over c =
     let l = c .before .loop in
     let q = c .loop-test in
-    let r = c .before .before .before .before .before .before .before .before .before .args .t1 in
+    let r = c .before .before .before .before .before .before .before .before .before .before .args .t1 in
     let stored = l .inv .2 in
     ⊎-elim
     (λ w. (
@@ -79,14 +83,14 @@ over c =
     (⊎-elim
     (λ w. (
       came-over _ _ (l .todo) _ _ (l .inv .0) (w .0 .taken) (valued _) (q .self) (q .at) (q .end) (q .value) (q .named) (q .steps)
-          (acts (l .self) r _ _ (l .at) (l .steps) (w .3 .result) (w .7 .result) stored (ap (λ (x : Runner). x .header .edition) stored) (l .inv .4) (w .3 .ensures (l .at) (l .inv .11)) (w .7 .ensures (l .inv .10)) _ (w .9 .given .1))
+          (acts (l .self) r _ _ _ (l .at) (l .half) (l .steps) (w .3 .result) (w .7 .result) stored (l .inv .12) (ap (λ (x : Runner). x .header .edition) stored) (l .inv .4) (l .inv .10) (l .inv .11) (w .3 .ensures) (w .7 .ensures) _ (w .9 .given .1))
           (w .16) (w .17) (w .18 ∙ l .inv .8) (w .15),
       rw (w .11) stored,
     ))
     (⊎-elim
     (λ w. (
       came-over _ _ (l .todo) _ _ (l .inv .0) (w .0 .taken) (notice _) (q .self) (q .at) (q .end) (q .value) (q .named) (q .steps)
-          (acts (l .self) r _ _ (l .at) (l .steps) (w .3 .result) (w .7 .result) stored (ap (λ (x : Runner). x .header .edition) stored) (l .inv .4) (w .3 .ensures (l .at) (l .inv .11)) (w .7 .ensures (l .inv .10)) _ (w .9 .given .1))
+          (acts (l .self) r _ _ _ (l .at) (l .half) (l .steps) (w .3 .result) (w .7 .result) stored (l .inv .12) (ap (λ (x : Runner). x .header .edition) stored) (l .inv .4) (l .inv .10) (l .inv .11) (w .3 .ensures) (w .7 .ensures) _ (w .9 .given .1))
           (w .16) (w .17 ∙ l .inv .7) (w .18) (w .15),
       rw (w .11) stored,
     ))
@@ -104,6 +108,12 @@ over c =
     ))))
     (q .came)
 
+standing-of-requires : tie.Need-standing-of-requires Inv-loop μ-loop
+standing-of-requires c κs = search needs
+
+check-advance-requires : tie.Need-check-advance-requires Inv-loop μ-loop
+check-advance-requires c κs = search needs
+
 cast-limit : tie.Need-cast-limit Inv-loop μ-loop
 cast-limit c = search needs
 
@@ -116,12 +126,6 @@ numbers-of-requires c κs = search needs
 hides-requires : tie.Need-hides-requires Inv-loop μ-loop
 hides-requires c κs = search needs
 
-choose-requires : tie.Need-choose-requires Inv-loop μ-loop
-choose-requires c κs = search needs
-
-check-advance-requires : tie.Need-check-advance-requires Inv-loop μ-loop
-check-advance-requires c κs = search needs
-
 amount-requires : tie.Need-amount-requires Inv-loop μ-loop
 amount-requires c κs = search needs
 
@@ -129,23 +133,28 @@ first-half-requires : tie.Need-first-half-requires Inv-loop μ-loop
 first-half-requires c κs = search needs
 
 cast-steps : tie.Need-cast-steps Inv-loop μ-loop
-cast-steps c = search needs
+cast-steps c =
+    let start = c .before .before .before .before .before .before .before .before in
+    let fits = steps-fit (start .args .t1) (start .good .0) in
+    search needs
 
 loop-holds : tie.Need-loop-holds Inv-loop μ-loop
-loop-holds c = (
-  refl,
-  omega arith,
-  refl,
-  refl,
-  c .before .before .before .before .before .before .mode-of .ensures,
-  search needs,
-  refl,
-  refl,
-  refl,
-  search needs,
-  c .before .before .before .before .before .numbers-of .ensures,
-  c .first-half .ensures,
-)
+loop-holds c =
+    let start = c .before .before .before .before .before .before .before .before in (
+      refl,
+      omega arith,
+      refl,
+      refl,
+      c .before .before .before .before .mode-of .ensures,
+      steps-fit (start .args .t1) (start .good .0),
+      refl,
+      refl,
+      refl,
+      search needs,
+      c .before .before .before .numbers-of .ensures,
+      first-half-finds _ _ (c .first-half .ensures),
+      marks-sixteen (start .args .t1) (start .good .0),
+    )
 
 sub-todo : tie.Need-sub-todo Inv-loop μ-loop
 sub-todo c = search needs
@@ -213,6 +222,7 @@ loop-again c =
       l .inv .9,
       l .inv .10,
       at .2,
+      at .3,
     )
 
 cast-self : tie.Need-cast-self Inv-loop μ-loop
@@ -230,19 +240,18 @@ returns : tie.Need-returns Inv-loop μ-loop
 returns c =
     let came = over (c .before .before) in
     let at-loop = c .before .before .before in
-    let verdict = at-loop .before .before .before .check-advance in
-    let chosen = at-loop .before .before .before .before .choose in
-    let hidden = at-loop .before .before .before .before .before .hides in
-    let mode = at-loop .before .before .before .before .before .before .before .mode-of in
-    let r = at-loop .before .before .before .before .before .before .before .before .args .t1 in
+    let hidden = at-loop .before .before .before .hides in
+    let mode = at-loop .before .before .before .before .before .mode-of in
+    let judged = at-loop .before .before .before .before .before .before in
+    let verdict = judged .check-advance in
+    let r = at-loop .before .before .before .before .before .before .before .before .before .args .t1 in
     let hides-as = hidden .ensures ∙ ap hides (mode .ensures) in
-    let least = chosen .ensures ∙ ap (λ (b : Bool). cond b (r .limit) 0) hides-as in
     let left = c .before .before .loop-test in
     advance-came _ _ r (left .self) _ _ _ _ _ _ _ (came .1) (came .0)
     (λ e. ⊎-elim (λ w. w .2) (λ w. absurd (w .0 .left e)) (c .before .if2 .came))
     (hidden .result) hides-as
     (λ n. ⊎-elim (λ w. absurd (n (w .0 .taken))) (λ w. w .4 ∙ ap (λ (k : Remains). endsWith (left .self) k (left .value)) (w .3 .ensures)) (c .before .if2 .came))
-    (verdict .result) (verdict .ensures (standingOf r) refl (sym least)) (at-loop .before .before .amount .ensures) (c .tell .ensures)
+    (verdict .result) (verdict .ensures ∙ ap (check (advance _)) (judged .before .standing-of .ensures)) (at-loop .before .before .amount .ensures) (c .tell .ensures)
 
 pub advance-spec : {M : Type 1} → statement M
 advance-spec =
@@ -250,12 +259,12 @@ advance-spec =
     (tie.spec
     Inv-loop
     μ-loop
+    standing-of-requires
+    check-advance-requires
     cast-limit
     mode-of-requires
     numbers-of-requires
     hides-requires
-    choose-requires
-    check-advance-requires
     amount-requires
     first-half-requires
     cast-steps
