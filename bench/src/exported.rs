@@ -1,4 +1,4 @@
-//! The proved library's functions, as `crates/bench_checks`, `crates/bench_rounds` and `crates/script` export them.
+//! The proved library's functions, as `crates/bench_checks`, `crates/bench_rounds` and `crates/test_script` export them.
 #[allow(improper_ctypes)]
 extern "C" {
     fn flow_checks(file: &[u8], mode: u32, inputs: &[u32], allowed: u32, limit: u32, rounds: u32) -> u64;

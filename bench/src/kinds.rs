@@ -1,8 +1,20 @@
 //! What a call tells as three numbers: a kind, as `crates/told/src/kinds.rt` has them, and two values, 0 where there is none.
 use crate::plain::Told;
 
-/// The kinds in the order of their numbers, from 0.
-pub const NAMES: [&str; 10] = ["done", "chart", "running", "ended", "value", "notice", "spent", "refused", "written", "shown"];
+/// The kinds in the order of their numbers, from 0, and last that of `NO_CALL`.
+pub const NAMES: [&str; 11] = ["done", "chart", "running", "ended", "value", "notice", "spent", "refused", "written", "shown", "no call"];
+
+/// Of a kind that is none of a call's, as `crates/test_script/src/lib.rt` has it.
+pub const NO_CALL: [u32; 3] = [16, 0, 0];
+
+/// The place of a kind in `NAMES`.
+pub fn place(kind: u32) -> usize {
+    if kind == NO_CALL[0] {
+        NAMES.len() - 1
+    } else {
+        kind as usize
+    }
+}
 
 pub fn numbers(told: Told) -> [u32; 3] {
     match told {

@@ -1,7 +1,7 @@
 //! Random and damaged charts and lists of calls through the exported functions and through plain Rust, for so many seconds, to the first difference.
 //!
 //! `differential SECONDS [SEED]`
-use bench::kinds::{numbers, shown};
+use bench::kinds::{numbers, place, shown, NO_CALL};
 use bench::plain::{convert, effective, show_box, Runner, Told};
 use bench::random::Random;
 use bench::{charts, exported, kinds};
@@ -86,7 +86,7 @@ impl Script {
         self.files.extend(file);
         self.words.push(call(&[0, from, length]));
         for _ in 0..random.below(40) {
-            self.words.push(match random.below(15) {
+            self.words.push(match random.below(16) {
                 0..=2 => {
                     let begin = begin(random, k);
                     *limit = effective(begin[3]);
@@ -98,7 +98,8 @@ impl Script {
                 10 => call(&[5, room(random, length)]),
                 11 => call(&[6, from, length, if random.one_in(2) { random.below(12) } else { random.below(256) }]),
                 12 => call(&[7, from, length, room(random, length)]),
-                _ => call(&[8]),
+                13..=14 => call(&[8]),
+                _ => call(&[random.number().max(9), from, length, random.below(12)]),
             });
         }
     }
@@ -153,7 +154,8 @@ fn plain(runner: &mut Runner, files: &[u8], words: &[u32; STRIDE], buf: &mut [u8
             }
             (numbers(told), sum_of(buf))
         }
-        _ => (numbers(runner.rewrite()), 0),
+        8 => (numbers(runner.rewrite()), 0),
+        _ => (NO_CALL, 0),
     };
     [told[0], told[1], told[2], sum]
 }
@@ -192,8 +194,8 @@ fn main() {
         for (i, (words, told)) in script.words.iter().zip(told.chunks(4)).enumerate() {
             let before = if words[0] == 8 { kind_4_boxes(&runner) } else { 0 };
             let expected = plain(&mut runner, &script.files, words, &mut theirs);
-            counts[expected[0] as usize] += 1;
-            let name = kinds::NAMES[expected[0] as usize];
+            counts[place(expected[0])] += 1;
+            let name = kinds::NAMES[place(expected[0])];
             let edition = || usize::from(script.files[words[1] as usize + 4]);
             match name {
                 "refused" => refusals[expected[1] as usize] += 1,

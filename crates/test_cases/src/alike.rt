@@ -4,11 +4,11 @@ use crate::made::advance;
 use crate::made::begin;
 use crate::made::load;
 use crate::pair::Pair;
-use crate::text::part;
 use runner::Runner;
 use test_samples::arguments;
 use test_samples::arguments::first_inputs;
 use test_samples::files::byte;
+use test_text::text::part;
 use told::kinds;
 
 struct Two {

@@ -2,48 +2,19 @@
 // `stdin` has the list of them.
 use crate::pair;
 use crate::pair::Pair;
-use crate::text::number;
-use crate::text::part;
-use crate::text::piece;
 use test_samples::arguments::first_inputs;
 use test_samples::files;
 use test_samples::files::File;
-use test_samples::files::byte;
 use test_samples::files::front;
 use test_samples::files::low;
+use test_text::edits;
+use test_text::letters;
+use test_text::text::number;
+use test_text::text::part;
+use test_text::text::piece;
 use told::kinds;
 
-// A command's first two letters.
-const CHART: u32 = 0x6368;
-
-const PUT: u32 = 0x7075;
-
-const BOX: u32 = 0x626f;
-
-const MEND: u32 = 0x6d65;
-
-const SEAL: u32 = 0x7365;
-
-const SWAP: u32 = 0x7377;
-
-const LOAD: u32 = 0x6c6f;
-
-const BEGIN: u32 = 0x6265;
-
-const ADVANCE: u32 = 0x6164;
-
-const ANSWER: u32 = 0x616e;
-
-const ABANDON: u32 = 0x6162;
-
-const WRITE: u32 = 0x7772;
-
-const SHOW: u32 = 0x7368;
-
-const CONVERT: u32 = 0x636f;
-
-const REWRITE: u32 = 0x7265;
-
+// First two letters, as in `letters`.
 const TAKE: u32 = 0x7461;
 
 const HOLDS: u32 = 0x686f;
@@ -51,43 +22,6 @@ const HOLDS: u32 = 0x686f;
 const NEW: u32 = 0x6e65;
 
 const EXPECT: u32 = 0x6578;
-
-fn letters(line: &[u8]) -> u32 {
-    256 * byte(line, 0) + byte(line, 1)
-}
-
-// Empty, or starting with #, which is 35.
-fn is_comment(line: &[u8]) -> bool {
-    (byte(line, 0) == 0) | (byte(line, 0) == 35)
-}
-
-// The ten bytes that follow a place.
-fn box_bytes(line: &[u8]) -> [u8; 10] {
-    let mut bytes = [0u8; 10];
-    for i in 0..10u32 {
-        bytes[i as usize] = low(number(line, 2 + i));
-    }
-    bytes
-}
-
-// A command to the file, or none.
-fn edit(line: &[u8], file: &mut File) -> bool {
-    let command = letters(line);
-    let first = number(line, 1);
-    let second = number(line, 2);
-    match command {
-        CHART => files::put_chart(file, first, second),
-        PUT => files::put(file, first as usize, low(second)),
-        BOX => files::put_box(file, first, box_bytes(line)),
-        MEND => files::mend(file),
-        SEAL => files::seal(file, low(first)),
-        SWAP => files::exchange(file, first, second),
-        _ => {
-            return false;
-        }
-    }
-    true
-}
 
 // The inputs are the last numbers of the line, after their count.
 fn begin(pair: Pair, line: &[u8]) -> Pair {
@@ -118,7 +52,7 @@ fn wrong_line(pair: Pair, line: &[u8]) -> Pair {
 // The ten bytes of a place of the file are those of the line.
 fn holds(pair: Pair, line: &[u8], file: &File) -> Pair {
     let start = files::place(number(line, 1));
-    let bytes = box_bytes(line);
+    let bytes = edits::box_bytes(line);
     if check::same(part(file, start, start + 10), &bytes) {
         return pair;
     }
@@ -126,19 +60,18 @@ fn holds(pair: Pair, line: &[u8], file: &File) -> Pair {
 }
 
 fn call(pair: Pair, line: &[u8], file: &File) -> Pair {
-    let command = letters(line);
     let first = number(line, 1);
     let second = number(line, 2);
-    match command {
-        LOAD => pair.load(front(file, first as usize)),
-        BEGIN => begin(pair, line),
-        ADVANCE => pair.advance(first),
-        ANSWER => pair.answer(),
-        ABANDON => pair.abandon(),
-        WRITE => pair.write_back(first as usize, second as usize, low(number(line, 3))),
-        SHOW => pair.show(front(file, first as usize), second),
-        CONVERT => pair.convert(front(file, first as usize), 7, second as usize, 9),
-        REWRITE => pair.rewrite(),
+    match letters::of(line) {
+        letters::LOAD => pair.load(front(file, first as usize)),
+        letters::BEGIN => begin(pair, line),
+        letters::ADVANCE => pair.advance(first),
+        letters::ANSWER => pair.answer(),
+        letters::ABANDON => pair.abandon(),
+        letters::WRITE => pair.write_back(first as usize, second as usize, low(number(line, 3))),
+        letters::SHOW => pair.show(front(file, first as usize), second),
+        letters::CONVERT => pair.convert(front(file, first as usize), 7, second as usize, 9),
+        letters::REWRITE => pair.rewrite(),
         HOLDS => holds(pair, line, file),
         NEW => pair.renew(),
         EXPECT => expect(pair, line),
@@ -148,13 +81,13 @@ fn call(pair: Pair, line: &[u8], file: &File) -> Pair {
 
 // Up to the first difference; comments are left out.
 fn command(pair: Pair, line: &[u8], file: &mut File) -> Pair {
-    if !pair.same | is_comment(line) {
+    if !pair.same | letters::is_comment(line) {
         return pair;
     }
-    if edit(line, file) {
+    if edits::edit(line, file) {
         return pair;
     }
-    if letters(line) == TAKE {
+    if letters::of(line) == TAKE {
         return pair.take(file);
     }
     call(pair, line, file)

@@ -10,7 +10,6 @@ mod made;
 mod pair;
 mod random_calls;
 mod report;
-mod text;
 
 use pair::Pair;
 use test_samples::damage;
@@ -18,6 +17,7 @@ use test_samples::files::File;
 use test_samples::files::front;
 use test_samples::random::below;
 use test_samples::random::one_in;
+use test_text::text::part;
 
 // Where the random numbers start.
 const SEED: u64 = 88172645463325252;
@@ -62,7 +62,7 @@ fn fixed_cases(file: &mut File) -> bool {
         io::write_all(1, b"standard input is too long\n");
         return false;
     }
-    commands::run(text::part(&text, 0, length), file)
+    commands::run(part(&text, 0, length), file)
 }
 
 fn main() {

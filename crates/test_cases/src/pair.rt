@@ -4,7 +4,6 @@ use crate::compare;
 use crate::counts;
 use crate::made;
 use crate::report;
-use crate::text::part;
 use runner::Runner;
 use test_samples::arguments;
 use test_samples::files;
@@ -12,6 +11,7 @@ use test_samples::files::File;
 use test_samples::files::byte;
 use test_second::Model;
 use test_second::Turn;
+use test_text::text::part;
 use told::Encoded;
 use told::kinds;
 

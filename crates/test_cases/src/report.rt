@@ -1,35 +1,9 @@
 // What the program prints: cases, differences, and what was reached.
-use crate::text::part;
-use crate::text::piece;
+use test_text::print::at;
+use test_text::print::fill;
+use test_text::print::say;
+use test_text::text::piece;
 use told::Encoded;
-
-fn say(words: &[u8]) {
-    io::write_all(1, words);
-}
-
-fn at(numbers: &[u64], i: usize) -> u64 {
-    if i < numbers.len() {
-        return numbers[i];
-    }
-    0
-}
-
-// A text, in which each % stands for the next of some numbers.
-fn fill(text: &[u8], numbers: &[u64]) {
-    let mut start: usize = 0;
-    let mut next: usize = 0;
-    let mut i: usize = 0;
-    while i < text.len() {
-        if text[i] == b'%' {
-            say(part(text, start, i));
-            io::print_decimal(1, at(numbers, next));
-            next = std::num::wrapping_add_usize(next, 1);
-            start = i + 1;
-        }
-        i += 1;
-    }
-    say(part(text, start, text.len()));
-}
 
 // What a call told, in the words of the run program: a line of `texts` for each kind, in the order of their numbers.
 fn print_told(t: Encoded) {
