@@ -1,5 +1,6 @@
--- The claims at their exact bounds, each from the theorem of its claim and nothing else: ranges say that a number is not the next one, kind by
--- kind of box. Assumes nothing.
+-- The claims at their exact bounds, each from the theorems of its claims: ranges say that a number
+-- is not the next one, kind by kind of box. That the last box block comes after the first, where it
+-- is another, is by the length of an accepted file and its one box or more. Assumes nothing.
 use Prim.Native.Nat.{ℕ}
 use mathlib.Core.Path.{_≡_}
 use mathlib.Core.List.{List}

@@ -1,4 +1,6 @@
--- The claims at their exact bounds. Each follows from the theorem of its claim alone, so a claim whose bound is moved by one would be noticed here.
+-- The claims at their exact bounds, so that a claim whose bound is moved by one would be noticed
+-- here. Each is proved from the theorems of the claims that it is of; `EndsExchanged` needs besides
+-- that an accepted file has two blocks or more.
 use Prim.Native.Nat.{ℕ, _+_}
 use mathlib.Core.Path.{_≡_}
 use mathlib.Core.List.{List}

@@ -1,4 +1,7 @@
--- The claims at their exact bounds, each from the theorem of its claim and nothing else. Assumes nothing.
+-- The claims at their exact bounds, each from the theorems of its claims. Besides: a begun run is
+-- under way (`begun-runs`), what a limit means is not 0 (`effective-positive`), a number in range
+-- is not the first one out of it (`header-bounds`, `box-bounds`), what a number with one bit has
+-- (`alone-has`), and laws of lists and of truth values. Assumes nothing.
 use Prim.Native.Nat.{ℕ, _+_, _-_, _^_}
 use mathlib.Core.Path.{_≡_, ap, sym, _∙_}
 use mathlib.Core.List.{List, [], _∷_, _++_, append-nil}

@@ -1,4 +1,8 @@
--- The claims at their exact bounds. Each follows from the theorem of its claim alone, so a claim whose bound is moved by one would be noticed here.
+-- The claims at their exact bounds, so that a claim whose bound is moved by one would be noticed
+-- here. Each is proved from the theorems of the claims that it is of. Besides, `RunsWithinBounds`
+-- needs that a begun run is under way and that what a limit means is not 0, `HeldWithinBounds` that
+-- a number in range is not the first one out of it, `KeepsOneInput` what a number with one bit has,
+-- and `WrittenIntoExactRoom` and `NamesWithinBounds` laws of lists and of truth values.
 use Prim.Native.Nat.{ℕ, _+_, _-_, _^_}
 use mathlib.Core.Path.{_≡_}
 use mathlib.Core.List.{List, [], _∷_, List·Memᴰ}

@@ -5,7 +5,7 @@ use mathlib.Core.Path.{_≡_, refl, ap, sym, _∙_}
 use mathlib.Core.List.{List, [], _∷_, _++_, List·Memᴰ·head, List·Memᴰ·tail}
 use mathlib.Core.Bool.{false, false≢true}
 use lib.ListN.{length, getD, replicate}
-use Rattle.begin.specs.Begin.{allows}
+use Rattle.begin.specs.Begin.{limitForNone, effective, allows}
 use Rattle.calls.specs.Calls.{Call, load, begin, advance, answer}
 use Rattle.calls.proofs.Permits.{not-done}
 use Rattle.runner.specs.declared.Runner.{Runner}
@@ -17,7 +17,10 @@ use Rattle.claims.specs.OneFile.{afterLoad, NoOtherChart}
 use Rattle.claims.proofs.OneFile.{reached-final, one-file-held}
 use Rattle.claims.proofs.Inputs.{none-has}
 use Rattle.examples.specs.Charts.{chartA, chartB, chartE, zerosTwo}
-use Rattle.examples.specs.Witnesses.{justLoaded, runBare, SecrecyIsMet, NoticeIsTold, SecondEditionIsMet, ChoiceIsMet, CountsAreHidden, AdvancesAreWhole, AnsweringIsMet}
+use Rattle.examples.specs.Witnesses.{justLoaded, runBare, loadedAndRun, BegunAlike}
+use Rattle.examples.specs.Witnesses.{SecrecyIsMet, NoticeIsTold, SecondEditionIsMet}
+use Rattle.examples.specs.Witnesses.{ChoiceIsMet, CountsAreHidden}
+use Rattle.examples.specs.Witnesses.{AdvancesAreWhole, AnsweringIsMet}
 use Rattle.examples.specs.Witnesses.{ConversionIsMet, RewritingIsMet, RewritingInOrder}
 use Rattle.examples.specs.Conversions.{chartATwo}
 use Rattle.examples.specs.Rewriting.{chartChoice, chartFork, chartTurns}
@@ -42,6 +45,21 @@ on-one-file file past past′ mode mode′ Limits inputs inputs′ allowed limit
       accepted′ = a′;
     }
 
+-- Two begins of one mode, the first with limit 0 and the second with the number that it means.
+begun-alike : (mode : ℕ) (file past inputs inputs′ : List ℕ) (allowed : ℕ)
+    → Accepted (load file) newRunner
+    → NoOtherChart file (runBare past) newRunner
+    → Accepted (begin mode inputs allowed 0) (justLoaded file)
+    → Accepted (begin mode inputs′ allowed limitForNone) (loadedAndRun file past)
+    → AllowedAlike allowed inputs inputs′
+    → BegunAlike mode file past inputs inputs′ allowed
+unfolding effective
+begun-alike mode file past inputs inputs′ allowed loads n a a′ alike = (
+  on-one-file file [] (runBare past) mode mode SameLimit inputs inputs′ allowed 0 limitForNone
+      loads tt n refl a a′,
+  alike,
+)
+
 -- Nothing is asked of an input that is withheld.
 elsewhere : (before : List ℕ) (a b : ℕ) (rest : List ℕ) (j : ℕ) → (j ≡ length before → ⊥) → getD (before ++ (a ∷ rest)) j 0 ≡ getD (before ++ (b ∷ rest)) j 0
 elsewhere [] a b rest zero n = absurd (n refl)
@@ -62,8 +80,8 @@ answered start v steps e = (advance 2 ∷ answer ∷ [], (tt, (tt, tt)), List·M
 pub secrecy-is-met : SecrecyIsMet
 unfolding runs-open
 secrecy-is-met = (
-  on-one-file chartA [] (runBare (1 ∷ 2 ∷ [])) 1 1 SameLimit (7 ∷ 9 ∷ []) (8 ∷ 9 ∷ []) 2 0 4096 refl tt (tt, (tt, tt)) refl refl refl,
-  one-withheld 2 [] refl 7 8 (9 ∷ []),
+  begun-alike 1 chartA (1 ∷ 2 ∷ []) (7 ∷ 9 ∷ []) (8 ∷ 9 ∷ []) 2
+      refl (tt, (tt, tt)) refl refl (one-withheld 2 [] refl 7 8 (9 ∷ [])),
   refl,
 )
 
@@ -74,16 +92,16 @@ none-allowed inputs inputs′ j e = absurd (false≢true (sym (none-has j) ∙ e
 pub notice-is-told : NoticeIsTold
 unfolding runs-open
 notice-is-told = (
-  on-one-file chartA [] (runBare (1 ∷ 2 ∷ [])) 1 1 SameLimit (7 ∷ 9 ∷ []) (8 ∷ 3 ∷ []) 0 0 4096 refl tt (tt, (tt, tt)) refl refl refl,
-  none-allowed (7 ∷ 9 ∷ []) (8 ∷ 3 ∷ []),
+  begun-alike 1 chartA (1 ∷ 2 ∷ []) (7 ∷ 9 ∷ []) (8 ∷ 3 ∷ []) 0
+      refl (tt, (tt, tt)) refl refl (none-allowed (7 ∷ 9 ∷ []) (8 ∷ 3 ∷ [])),
   refl,
 )
 
 pub second-edition-is-met : SecondEditionIsMet
 unfolding runs-open
 second-edition-is-met = (
-  on-one-file zerosTwo [] (runBare (1 ∷ 2 ∷ [])) 1 1 SameLimit (8 ∷ 2 ∷ []) (8 ∷ 5 ∷ []) 1 0 4096 refl tt (tt, (tt, tt)) refl refl refl,
-  one-withheld 1 (8 ∷ []) refl 2 5 [],
+  begun-alike 1 zerosTwo (1 ∷ 2 ∷ []) (8 ∷ 2 ∷ []) (8 ∷ 5 ∷ []) 1
+      refl (tt, (tt, tt)) refl refl (one-withheld 1 (8 ∷ []) refl 2 5 []),
   refl,
   refl,
   refl,
@@ -92,8 +110,8 @@ second-edition-is-met = (
 pub choice-is-met : ChoiceIsMet
 unfolding rewritings-open
 choice-is-met = (
-  on-one-file chartChoice [] (runBare (1 ∷ 2 ∷ 3 ∷ 4 ∷ [])) 1 1 SameLimit (5 ∷ 5 ∷ 7 ∷ 9 ∷ []) (6 ∷ 5 ∷ 7 ∷ 9 ∷ []) 14 0 4096 refl tt (tt, (tt, tt)) refl refl refl,
-  one-withheld 14 [] refl 5 6 (5 ∷ 7 ∷ 9 ∷ []),
+  begun-alike 1 chartChoice (1 ∷ 2 ∷ 3 ∷ 4 ∷ []) (5 ∷ 5 ∷ 7 ∷ 9 ∷ []) (6 ∷ 5 ∷ 7 ∷ 9 ∷ []) 14
+      refl (tt, (tt, tt)) refl refl (one-withheld 14 [] refl 5 6 (5 ∷ 7 ∷ 9 ∷ [])),
   refl,
   refl,
   refl,
@@ -102,8 +120,8 @@ choice-is-met = (
 pub counts-are-hidden : CountsAreHidden
 unfolding runs-open
 counts-are-hidden = (
-  on-one-file chartB [] (runBare (1 ∷ [])) 2 2 SameLimit (0 ∷ []) (4 ∷ []) 0 0 4096 refl tt (tt, (tt, tt)) refl refl refl,
-  none-allowed (0 ∷ []) (4 ∷ []),
+  begun-alike 2 chartB (1 ∷ []) (0 ∷ []) (4 ∷ []) 0
+      refl (tt, (tt, tt)) refl refl (none-allowed (0 ∷ []) (4 ∷ [])),
   refl,
   refl,
   refl,

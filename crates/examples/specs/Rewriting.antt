@@ -117,19 +117,27 @@ rewritingCases =
     ∷ rewrites chain chainNew
     ∷ rewrites chartTurns turnsNew
     ∷ rewrites chartChoice chartChoice
-    -- notices where the rewritten chart has a value, one step less each time that a box put in is run, and a limit that the old chart just reaches
+    -- notices where the rewritten chart has a value, one step less each time that a box put in is
+    -- run, and limits that are just enough for the old chart and for the new one, and one too small
     ∷ runs chartFork surveillance (7 ∷ []) 0 0 (notice 1) 1
     ∷ runsRewritten chartFork surveillance (7 ∷ []) 0 0 (valued 1) 3
+    ∷ runs chartFork highWater (7 ∷ []) 0 0 (notice 0) 0
+    ∷ runsRewritten chartFork highWater (7 ∷ []) 0 0 (valued 1) 3
     ∷ runs chartFork bare (7 ∷ []) 0 4 (valued 1) 4
     ∷ runsRewritten chartFork bare (7 ∷ []) 0 4 (valued 1) 3
     ∷ runs chartFork bare (7 ∷ []) 0 3 spent 3
     ∷ runsRewritten chartFork bare (7 ∷ []) 0 3 (valued 1) 3
+    ∷ runsRewritten chartFork bare (7 ∷ []) 0 2 spent 2
     ∷ runs chartTurns bare (1 ∷ []) 0 0 (valued 1) 10
     ∷ runsRewritten chartTurns bare (1 ∷ []) 0 0 (valued 1) 8
-    -- a value where the rewritten chart has a notice: the copy that is not made is read
+    ∷ runs chartTurns bare (0 ∷ []) 0 0 (valued 0) 6
+    ∷ runsRewritten chartTurns bare (0 ∷ []) 0 0 (valued 0) 5
+    -- a value where the rewritten chart has a notice: the copy that is not made is read; and a
+    -- value there too, with the input allowed and a limit that is just enough
     ∷ runs chartNever surveillance (7 ∷ []) 0 0 (valued 0) 3
     ∷ runsRewritten chartNever surveillance (7 ∷ []) 0 0 (notice 1) 2
+    ∷ runsRewritten chartNever surveillance (7 ∷ []) 1 2 (valued 0) 2
     ∷ []
 
 abbrev pub RewritingCases : Type 0
-RewritingCases = Table 43 rewritingCases
+RewritingCases = Table 49 rewritingCases

@@ -6,14 +6,14 @@ use native.Mathlib.Decide.{decLt}
 use native.Mathlib.Omega.{arith}
 use lib.ListN.{length, take, length-take}
 use lib.Seq.{take-all}
-use borrow.Author.Tests.{ne-eqb}
+use borrow.Author.Tests.{ltb-true, ne-eqb}
 use Rattle.format.specs.File.{refusal, checkFile}
 use Rattle.format.specs.declared.Checked.the-variants.{Refused}
 use Rattle.calls.specs.Calls.{fileVerdict, check}
 use Rattle.runner.specs.State.{newRunner}
 use Rattle.runner.specs.Outcomes.{refused, outcomeBy, call}
 use Rattle.reply.specs.Reply.{loaded}
-use Rattle.program_claims.specs.SessionClaims.{readOfFile, FirstBytes}
+use Rattle.program_claims.specs.SessionClaims.{FirstBytes}
 
 too-long : (file : List ℕ) → 2560 < length file → checkFile file ≡ Refused (refusal 1 0)
 unfolding checkFile
@@ -34,4 +34,4 @@ first-of n m file = by (decLt 2560 (length file))
     by (no l) = ap (λ (f : List ℕ). loaded f newRunner) (take-all n file (omega arith))
 
 pub first-bytes : FirstBytes
-first-bytes file = first-of readOfFile (omega arith) file
+first-bytes file = search (first-of, ltb-true)

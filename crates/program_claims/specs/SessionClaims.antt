@@ -7,7 +7,7 @@ use lib.ListN.{length, take}
 use Rattle.runner.specs.State.{newRunner}
 use Rattle.reply.specs.Reply.{loaded}
 use Rattle.transcript.specs.Lines.{linesOf, wholeLines}
-use Rattle.transcript.specs.Transcript.{answers, chartLine, isChart, holder, transcript}
+use Rattle.transcript.specs.Transcript.{readOfFile, answers, chartLine, isChart, holder, transcript}
 use Rattle.transcript.specs.Session.{State, write, read, stop, turn, received, failed}
 
 -- How far an input has come: it may go on, it has ended, or a read of it has failed.
@@ -59,9 +59,7 @@ abbrev pub WritesEnd : Type 0
 WritesEnd =
     (file : List ℕ) (room : ℕ) (s s′ : State) (text : List ℕ) → turn (holder file) room s ≡ write text s′ → length (s′ .bytes) < length (s .bytes)
 
--- So many bytes of a chart file are read at most. "file length isn't 1,024, 1,536, 2,048 or 2,560": that is enough to tell that a file is too long.
-abbrev pub readOfFile : ℕ
-readOfFile = 2561
-
+-- "file length isn't 1,024, 1,536, 2,048 or 2,560": what is read of a chart file at most is enough
+-- to tell that it is too long.
 abbrev pub FirstBytes : Type 0
 FirstBytes = (file : List ℕ) → loaded (take readOfFile file) newRunner ≡ loaded file newRunner

@@ -6,13 +6,15 @@ use libc::STDOUT_FILENO;
 use runner::Runner;
 use transcript::Session;
 use transcript::Wanted;
+ghost use mathlib.Core.Path.{_≡_};
 ghost use Prim.Native.Nat.{_≤_};
 ghost use lib.ListN.{length};
 ghost use Rattle.io.specs.Counts.{Counts};
+ghost use Rattle.transcript.specs.Transcript.{readOfFile};
 
 // Reads chart.bin to the front of a buffer, and answers how many bytes: none where it cannot be read. There is no equation, since no contract can say what the file
 // holds.
-pub fn read_chart(buf: &mut [u8]) -> usize
+pub fn read_chart(buf: &mut [u8; 2561]) -> usize
     ensures { λ r. ⌜ Counts r (now (buf .exit)) ⌝ }
 {
     let fd = os::open_read(b"chart.bin");
@@ -25,8 +27,10 @@ pub fn read_chart(buf: &mut [u8]) -> usize
     length
 }
 
-// Reads until a buffer is full or the file ends; a read that fails counts as no bytes.
+// Reads until a buffer is full or the file ends; a read that fails counts as no bytes. The buffer
+// has as many bytes as are read of a chart file at most.
 fn read_file(fd: i32, buf: &mut [u8]) -> usize
+    requires { ⌜ length (now buf) ≡ readOfFile ⌝ }
     ensures { λ r. ⌜ Counts r (now (buf .exit)) ⌝ }
 {
     let mut length: usize = 0;

@@ -7,6 +7,10 @@ use Rattle.runner.specs.declared.Runner.{Runner}
 use Rattle.reply.specs.Reply.{replyText, accepted, loaded, respond}
 use Rattle.transcript.specs.Lines.{linesOf}
 
+-- So many bytes of a chart file are read at most: `serve` reads it into a buffer of this length.
+abbrev pub readOfFile : ℕ
+readOfFile = 2561
+
 -- The answers to lines, by a runner that holds a chart, after so many lines: "line number from 1"; "A refused line prints its refusal, and the next line is
 -- read."
 unfoldable pub answers : Runner → (count : ℕ) → List (List ℕ) → List ℕ
