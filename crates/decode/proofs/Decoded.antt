@@ -1,4 +1,4 @@
--- What boxFrom gives at byte i of a table: it decodes the ten bytes from there on (`read`), by the kind that stands there. Of the 204 places boxAt decodes the place's ten bytes (`box-here`), and
+-- What boxFrom gives at byte n of a table, which the code has as i: it decodes the ten bytes from there on (`read`), by the kind that stands there. Of the 204 places boxAt decodes the place's ten bytes (`box-here`), and
 -- past them it is a halt (`box-past`). By which halves the box of a number is found (`Finds`): by five times the number, or the lesser of it and 204. Assumes nothing.
 use Prim.Native.Nat.{ℕ, _+_, _*_, _≤_, _<_, min}
 use mathlib.Core.Path.{_≡_, refl, ap, sym, _∙_}
@@ -13,19 +13,19 @@ use Rattle.boxes.proofs.Places.{part-byte}
 use Rattle.decode.specs.Decode.{word, decode, boxFrom, boxAt}
 use Rattle.decode.specs.declared.FlowBox.the-variants.{Assign, Decide, Halt, Choose}
 
-module _ (t : List ℕ) (i : ℕ) (h : i ≤ 2030) where
-  byte : (k : ℕ) → k < 10 → at (part t i 10) k ≡ at t (i + k)
-  byte k l = part-byte t i 10 k l
+module _ (t : List ℕ) (i n : ℕ) (is : i ≡ n) (h : n ≤ 2030) where
+  byte : (k : ℕ) → k < 10 → at (part t n 10) k ≡ at t (i + k)
+  byte k l = part-byte t n 10 k l ∙ ap (λ (m : ℕ). at t (m + k)) (sym is)
 
-  kind : at (part t i 10) 0 ≡ at t i
+  kind : at (part t n 10) 0 ≡ at t i
   kind = byte 0 (omega arith) ∙ ap (at t) (add-zero i)
 
-  read : boxFrom t i
+  read : boxFrom t n
       ≡ decode (at t i ∷ at t (i + 1) ∷ at t (i + 2) ∷ at t (i + 3) ∷ at t (i + 4) ∷ at t (i + 5) ∷ at t (i + 6) ∷ at t (i + 7) ∷ at t (i + 8) ∷ at t (i + 9) ∷ [])
   unfolding boxFrom decode
   read =
       rw (
-        lt-leb 2031 i (omega arith),
+        lt-leb 2031 n (omega arith),
         kind,
         byte 1 (omega arith),
         byte 2 (omega arith),
@@ -42,21 +42,21 @@ module _ (t : List ℕ) (i : ℕ) (h : i ≤ 2030) where
       → at t i ≡ 1
       → k ≡ word (at t (i + 6)) (at t (i + 7)) (at t (i + 8)) (at t (i + 9))
       → Assign (at t (i + 1)) (at t (i + 2)) (at t (i + 3)) (at t (i + 4)) (at t (i + 5)) k
-      ≡ boxFrom t i
+      ≡ boxFrom t n
   unfolding decode
   assign-at k e w = rw (read, e, w)
 
   pub decide-at : at t i ≡ 2
-      → Decide (at t (i + 2)) (at t (i + 3)) (at t (i + 4)) (at t (i + 5)) (at t (i + 6)) ≡ boxFrom t i
+      → Decide (at t (i + 2)) (at t (i + 3)) (at t (i + 4)) (at t (i + 5)) (at t (i + 6)) ≡ boxFrom t n
   unfolding decode
   decide-at e = rw (read, e)
 
   pub choose-at : at t i ≡ 4
-      → Choose (at t (i + 1)) (at t (i + 2)) (at t (i + 3)) (at t (i + 4)) (at t (i + 5)) (at t (i + 6)) (at t (i + 7)) ≡ boxFrom t i
+      → Choose (at t (i + 1)) (at t (i + 2)) (at t (i + 3)) (at t (i + 4)) (at t (i + 5)) (at t (i + 6)) (at t (i + 7)) ≡ boxFrom t n
   unfolding decode
   choose-at e = rw (read, e)
 
-  pub halt-at : (at t i ≡ 1 → ⊥) → (at t i ≡ 2 → ⊥) → (at t i ≡ 4 → ⊥) → Halt ≡ boxFrom t i
+  pub halt-at : (at t i ≡ 1 → ⊥) → (at t i ≡ 2 → ⊥) → (at t i ≡ 4 → ⊥) → Halt ≡ boxFrom t n
   unfolding decode
   halt-at one two four = rw (read, ne-eqb _ _ one, ne-eqb _ _ two, ne-eqb _ _ four)
 

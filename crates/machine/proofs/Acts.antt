@@ -12,6 +12,7 @@ use Rattle.operations.specs.Operation.{readBy, valueOf, compares, chosen}
 use Rattle.operations.proofs.ReadLaws.{read-map}
 use Rattle.marks.specs.Marks.{marked, union, numbersOf, setBy, decisionNotice, counterMark, haltNotice, namedBy}
 use Rattle.marks.specs.declared.Mode.{Mode}
+use Rattle.marks.specs.declared.Numbers.{Numbers}
 use Rattle.marks.proofs.MarkLaws.{set-by-mode, set-sixteen}
 use Rattle.decode.specs.Decode.{Box, assigns, decides, halts, meaning}
 use Rattle.decode.specs.declared.FlowBox.{FlowBox}
@@ -20,6 +21,11 @@ use Rattle.machine.specs.Act.{entry, entries, noticeOr, actBy, act}
 use Rattle.machine.specs.declared.Act.{Act}
 use Rattle.machine.specs.declared.Act.the-variants.{Store, Go, Value, Notice}
 use Rattle.machine.specs.declared.Marked.{Marked}
+
+-- What is stored where a mark was set by the numbers, of the mark that the target has.
+pub stores : (numbers : Numbers) (t v m next old before read : ℕ) → before ≡ old → m ≡ setBy numbers before read
+    → Store t v m next ≡ Store t v (setBy numbers old read) next
+stores numbers t v m next old before read o e = ap (λ (x : ℕ). Store t v x next) (e ∙ ap (λ (x : ℕ). setBy numbers x read) o)
 
 -- Every mark is of 16 inputs.
 abbrev pub SixteenInputs : List ℕ → Type 0

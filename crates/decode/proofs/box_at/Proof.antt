@@ -75,7 +75,7 @@ returns-2 : tie.Need-returns-2
 returns-2 c =
     let w = c .before .before .before .before in
     let two = w .before .before .before .before .before in
-    assign-at _ _ (omega (arith, two .before .before .before .if1 .left)) _ (two .if2 .taken) (w .word .ensures)
+    assign-at _ _ _ (omega arith) (omega (arith, two .before .before .before .if1 .left)) _ (two .if2 .taken) (w .word .ensures)
 
 add-t38 : tie.Need-add-t38
 add-t38 c = search needs
@@ -104,7 +104,7 @@ element-copy-out-t53 c = search needs
 returns-3 : tie.Need-returns-3
 returns-3 c =
     let three = c .before .before .before .before in
-    decide-at _ _ (omega (arith, three .before .before .before .before .if1 .left)) (three .if3 .taken)
+    decide-at _ _ _ (omega arith) (omega (arith, three .before .before .before .before .if1 .left)) (three .if3 .taken)
 
 add-t54 : tie.Need-add-t54
 add-t54 c = search needs
@@ -145,11 +145,11 @@ element-copy-out-t77 c = search needs
 returns-4 : tie.Need-returns-4
 returns-4 c =
     let four = c .before .before .before .before .before .before in
-    choose-at _ _ (omega (arith, four .before .before .before .before .before .if1 .left)) (four .if4 .taken)
+    choose-at _ _ _ (omega arith) (omega (arith, four .before .before .before .before .before .if1 .left)) (four .if4 .taken)
 
 returns-5 : tie.Need-returns-5
 returns-5 c =
-    halt-at _ _ (omega (arith, c .before .before .before .before .before .if1 .left)) (c .before .before .if2 .left) (c .before .if3 .left) (c .if4 .left)
+    halt-at _ _ _ (omega arith) (omega (arith, c .before .before .before .before .before .if1 .left)) (c .before .before .if2 .left) (c .before .if3 .left) (c .if4 .left)
 
 pub box-at-spec : {M : Type 1} → statement M
 box-at-spec =

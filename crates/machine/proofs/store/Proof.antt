@@ -1,5 +1,6 @@
 -- `store` sets the mark by the numbers, of the mark that its target has.
 use borrow.Author.Needs.{needs}
+use Rattle.machine.proofs.Acts.{stores}
 use Rattle.machine.proofs.store.Statement.{statement}
 use Rattle.machine.proofs.store.Tie as tie
 
@@ -10,7 +11,9 @@ set-mark-requires : tie.Need-set-mark-requires
 set-mark-requires c κs = search needs
 
 returns : tie.Need-returns
-returns c = rw (c .set-mark .ensures, c .before .variable .ensures .1)
+returns c =
+    let a = c .before .before .args in
+    stores (a .numbers) _ _ _ _ _ (c .before .variable .result .mark) (a .given .mark) (c .before .variable .ensures .1) (c .set-mark .ensures)
 
 pub store-spec : {M : Type 1} → statement M
 store-spec = tie.close (tie.spec variable-requires set-mark-requires returns)
