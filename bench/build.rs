@@ -1,4 +1,5 @@
-//! Links the proved libraries that `rt staticlib` wrote of `bench_checks`, `bench_rounds` and `test_script`.
+//! Links the proved libraries that `rt staticlib` wrote of `bench_checks`, `bench_rounds` and
+//! `test_script`.
 fn main() {
     let root = std::env::var("CARGO_MANIFEST_DIR").unwrap();
     println!("cargo:rustc-link-search=native={root}/../target/staticlib");

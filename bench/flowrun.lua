@@ -1,4 +1,5 @@
--- The run program in Lua, by the scope document's rules, for LuaJIT: numbers of 32 bits are doubles from 0 to 4294967295.
+-- The run program in Lua, by the scope document's rules, for LuaJIT: numbers of 32 bits are doubles
+-- from 0 to 4294967295.
 local bit = require("bit")
 local floor, min, max = math.floor, math.min, math.max
 local band, bor, bnot, lshift = bit.band, bit.bor, bit.bnot, bit.lshift
@@ -99,7 +100,8 @@ local vars, marks = {}, {}
 local function run(chart, mode, limit)
   local at, steps, counter = chart.first, 0, 0
   local boxes, edition = chart.boxes, chart.edition
-  -- The inputs that an assignment keeps of its target's old set and takes of the sets read: bare keeps all and takes none.
+  -- The inputs that an assignment keeps of its target's old set and takes of the sets read: bare
+  -- keeps all and takes none.
   local keep, take = mode == 1 and 0 or 65535, mode == 0 and 0 or 65535
   while true do
     local b = boxes[at]
@@ -148,7 +150,8 @@ local function run(chart, mode, limit)
   end
 end
 
--- An ending as it is told: in high-water mode a notice and a spent run end alike, as a notice of no steps that names no inputs.
+-- An ending as it is told: in high-water mode a notice and a spent run end alike, as a notice of no
+-- steps that names no inputs.
 local function close(mode, kind, value, steps)
   if mode == 2 and kind ~= "value" then return "notice", 0, 0 end
   return kind, value, steps

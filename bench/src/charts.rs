@@ -24,7 +24,8 @@ pub fn choose(target: u8, comparison: u8, left: u8, right: u8, next: u8, yes: u8
 
 pub const HALT: Box10 = [3, 0, 0, 0, 0, 0, 0, 0, 0, 0];
 
-/// Writes the check of each block by an edition's rule: in edition 2 the check of block j adds 511 times j.
+/// Writes the check of each block by an edition's rule: in edition 2 the check of block j adds 511
+/// times j.
 fn seal_by(edition: u8, file: &mut [u8]) {
     let added = if edition == 2 { 511 } else { 0 };
     for (j, block) in (0u32..).zip(file.chunks_exact_mut(512)) {
@@ -57,7 +58,8 @@ pub fn chart_a() -> Vec<u8> {
     file(1, 2, 0, &[assign(31, 1, 0, 0, 1), assign(31, 1, 1, 0, 2), HALT])
 }
 
-/// Adds input 0 to 31 as often as variable 17 counts down from the greatest number, which no limit lets it finish: two assignments and a decision a turn.
+/// Adds input 0 to 31 as often as variable 17 counts down from the greatest number, which no limit
+/// lets it finish: two assignments and a decision a turn.
 pub fn counting(edition: u8) -> Vec<u8> {
     let boxes = [
         constant(17, u32::MAX, 1),
@@ -105,7 +107,8 @@ pub fn choices() -> Vec<u8> {
     file(2, 2, 0, &boxes)
 }
 
-/// A chart of edition 2 and 204 boxes: decisions between two copies, by one comparison, in a circle.
+/// A chart of edition 2 and 204 boxes: decisions between two copies, by one comparison, in a
+/// circle.
 pub fn forks(comparison: u8) -> Vec<u8> {
     let mut boxes = Vec::new();
     for p in (0..204u8).step_by(3) {
@@ -122,7 +125,8 @@ pub fn sixteen() -> Vec<u8> {
     file(1, 16, 0, &boxes)
 }
 
-/// A straight chart of an edition and so many boxes, the halt included; the others have one operation, which reads left and right.
+/// A straight chart of an edition and so many boxes, the halt included; the others have one
+/// operation, which reads left and right.
 pub fn straight(edition: u8, op: u8, n: usize) -> Vec<u8> {
     let mut boxes: Vec<Box10> = (1..n).map(|p| assign(31, op, 31, 0, p as u8)).collect();
     boxes.push(HALT);
@@ -181,8 +185,9 @@ fn random_box(random: &mut Random, edition: u8, k: u8, n: u8, p: u8, shared: boo
     }
 }
 
-/// A decision at p between copies at q and r with one target and one next box, which a rewriting replaces; or, often, something near to that, which may
-/// involve box s. With `kind_4` there may be a box of that kind.
+/// A decision at p between copies at q and r with one target and one next box, which a rewriting
+/// replaces; or, often, something near to that, which may involve box s. With `kind_4` there may be
+/// a box of that kind.
 fn put_fork(random: &mut Random, k: u8, kind_4: bool, boxes: &mut [Box10], [p, q, r, s]: [u8; 4]) {
     let n = boxes.len() as u32;
     let [at_p, at_q, at_r, at_s] = [p, q, r, s].map(usize::from);
@@ -200,7 +205,8 @@ fn put_fork(random: &mut Random, k: u8, kind_4: bool, boxes: &mut [Box10], [p, q
         3 => boxes[at_q][2] = 9 + random.below(2) as u8,
         4 => boxes[at_q] = constant(target, random.number(), next),
         5 if kind_4 => boxes[at_q] = random_choice(random, k, target, next),
-        // Another decision's next boxes are this one, which is replaced, and a copy, or both copies.
+        // Another decision's next boxes are this one, which is replaced, and a copy, or both
+        // copies.
         6 => boxes[at_s] = random_decision(random, k, p, q),
         7 => boxes[at_s] = random_decision(random, k, no, yes),
         8..=9 => boxes[at_s] = HALT,
@@ -208,8 +214,8 @@ fn put_fork(random: &mut Random, k: u8, kind_4: bool, boxes: &mut [Box10], [p, q
     }
 }
 
-/// A chart that load accepts, of either edition. In one of three every box is the same in both; in one of six those below some box are. One of two has many
-/// decisions between copies.
+/// A chart that load accepts, of either edition. In one of three every box is the same in both; in
+/// one of six those below some box are. One of two has many decisions between copies.
 pub fn random_chart(random: &mut Random) -> Vec<u8> {
     let edition = 1 + random.below(2) as u8;
     let k = random.below(17) as u8;
@@ -249,8 +255,9 @@ pub fn exchange(random: &mut Random, file: &mut [u8]) -> bool {
     true
 }
 
-/// Damage of one kind or another, the checks mended or not, or the checks of the other edition's rule. One in four draws the edition anew, from 0 to 3,
-/// and mostly mends the checks with nothing else damaged.
+/// Damage of one kind or another, the checks mended or not, or the checks of the other edition's
+/// rule. One in four draws the edition anew, from 0 to 3, and mostly mends the checks with nothing
+/// else damaged.
 pub fn damage(random: &mut Random, file: &mut Vec<u8>) {
     if random.one_in(4) {
         file[4] = random.below(4) as u8;

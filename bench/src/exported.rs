@@ -1,4 +1,5 @@
-//! The proved library's functions, as `crates/bench_checks`, `crates/bench_rounds` and `crates/test_script` export them.
+//! The proved library's functions, as `crates/bench_checks`, `crates/bench_rounds` and
+//! `crates/test_script` export them.
 #[allow(improper_ctypes)]
 extern "C" {
     fn flow_checks(file: &[u8], mode: u32, inputs: &[u32], allowed: u32, limit: u32, rounds: u32) -> u64;
@@ -34,7 +35,8 @@ pub fn shows(file: &[u8], rounds: u32) -> u64 {
     unsafe { flow_shows(file, rounds) }
 }
 
-/// A list of calls, and what each tells, four numbers a call: the three of `kinds::numbers`, and a sum over bytes; how many calls were made.
+/// A list of calls, and what each tells, four numbers a call: the three of `kinds::numbers`, and a
+/// sum over bytes; how many calls were made.
 pub fn script(files: &[u8], words: &[u32], told: &mut [u32], buf: &mut [u8]) -> usize {
     unsafe { flow_script(files, words, told, buf) }
 }

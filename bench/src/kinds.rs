@@ -1,4 +1,5 @@
-//! What a call tells as three numbers: a kind, as `crates/told/src/kinds.rt` has them, and two values, 0 where there is none.
+//! What a call tells as three numbers: a kind, as `crates/told/src/kinds.rt` has them, and two
+//! values, 0 where there is none.
 use crate::plain::Told;
 
 /// The kinds in the order of their numbers, from 0, and last that of `NO_CALL`.

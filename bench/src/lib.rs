@@ -1,4 +1,5 @@
-//! Charts in plain Rust, beside the proved library: what the benchmark and the differential test share.
+//! Charts in plain Rust, beside the proved library: what the benchmark and the differential test
+//! share.
 pub mod by_value;
 pub mod charts;
 pub mod exported;

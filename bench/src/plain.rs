@@ -1,9 +1,11 @@
-//! Charts by the scope document, in plain Rust: the runner behind `&mut self`, the boxes read out of the same byte table.
+//! Charts by the scope document, in plain Rust: the runner behind `&mut self`, the boxes read out
+//! of the same byte table.
 
 /// The greatest limit; an advance by so many boxes ends a run in every mode.
 pub const GREATEST_LIMIT: u32 = 65535;
 
-/// What a call tells: a refusal is its number and detail; a notice names a set of withheld inputs, of which bit j is input j.
+/// What a call tells: a refusal is its number and detail; a notice names a set of withheld inputs,
+/// of which bit j is input j.
 #[derive(Clone, Copy, PartialEq, Eq, Debug)]
 pub enum Told {
     Done,
@@ -38,7 +40,8 @@ pub struct Header {
     first: u8,
 }
 
-/// A mark is a set of withheld inputs, 0 where there is none; `named` is the set of the notice told, 0 without one.
+/// A mark is a set of withheld inputs, 0 where there is none; `named` is the set of the notice
+/// told, 0 without one.
 #[derive(Clone)]
 pub struct Runner {
     table: [u8; 2040],
@@ -206,7 +209,8 @@ fn holds(comparison: u8, x: u32, y: u32) -> bool {
     }
 }
 
-/// The kind 4 box that a decision becomes: its two next boxes differ, and are copies with one target and one next box.
+/// The kind 4 box that a decision becomes: its two next boxes differ, and are copies with one
+/// target and one next box.
 fn choice(boxes: &[[u8; 10]], b: &[u8; 10]) -> Option<[u8; 10]> {
     if b[0] != 2 || b[5] == b[6] {
         return None;
@@ -303,7 +307,8 @@ impl Runner {
         Told::Done
     }
 
-    /// Stores to a target a value and the mark that goes with the marks read, and goes to the next box.
+    /// Stores to a target a value and the mark that goes with the marks read, and goes to the next
+    /// box.
     fn store(&mut self, t: usize, value: u32, read: u16, next: u8) {
         self.marks[t] = read & self.take | self.marks[t] & self.keep;
         self.vars[t] = value;
@@ -380,8 +385,8 @@ impl Runner {
         None
     }
 
-    /// Ends the run and tells so. In high-water mode a notice and a spent run end alike, as a notice of no steps, and the steps of a value are left to the
-    /// answer.
+    /// Ends the run and tells so. In high-water mode a notice and a spent run end alike, as a
+    /// notice of no steps, and the steps of a value are left to the answer.
     fn close(&mut self, (state, value, named): Ending) -> Told {
         self.rest(state, value, named);
         if self.mode != 2 {
@@ -453,7 +458,8 @@ impl Runner {
         Told::Written(length)
     }
 
-    /// Makes a kind 4 box of each decision between two copies. Only decisions change and only assignments are looked at, so all are judged on the old chart.
+    /// Makes a kind 4 box of each decision between two copies. Only decisions change and only
+    /// assignments are looked at, so all are judged on the old chart.
     pub fn rewrite(&mut self) -> Told {
         if self.header.boxes == 0 {
             return Told::Refused(21, 0);

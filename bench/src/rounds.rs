@@ -1,5 +1,5 @@
-//! Many rounds of one call, or of a health check, for both plain runners; what each told is folded into a sum. The rounds are those of
-//! `crates/bench_rounds` and `crates/bench_checks`.
+//! Many rounds of one call, or of a health check, for both plain runners; what each told is folded
+//! into a sum. The rounds are those of `crates/bench_rounds` and `crates/bench_checks`.
 use crate::by_value;
 use crate::kinds::numbers;
 use crate::plain;
@@ -85,8 +85,8 @@ pub fn converts(file: &[u8], buf: &mut [u8], rounds: u32) -> u64 {
     sum
 }
 
-/// Rewritings of two charts in turn, whose files are each a half of the bytes. The last chart rewritten is written back, and the first byte of the check of
-/// its first boxes is folded too.
+/// Rewritings of two charts in turn, whose files are each a half of the bytes. The last chart
+/// rewritten is written back, and the first byte of the check of its first boxes is folded too.
 pub fn rewrites(files: &[u8], buf: &mut [u8], rounds: u32) -> u64 {
     let (one, other) = files.split_at(files.len() / 2);
     let charts = [one, other].map(|file| {

@@ -1,14 +1,16 @@
-//! Times the proved library beside plain Rust in one process: alternating rounds, medians, and the same answers from all sides.
+//! Times the proved library beside plain Rust in one process: alternating rounds, medians, and the
+//! same answers from all sides.
 //!
-//! `bench`: the table of ratios. `bench work NAME SIDE ROUNDS`: one side of one row, so often and untimed, for counting instructions; `bench names`: the
-//! rows.
+//! `bench`: the table of ratios. `bench work NAME SIDE ROUNDS`: one side of one row, so often and
+//! untimed, for counting instructions; `bench names`: the rows.
 use bench::{charts, exported, rounds};
 use std::hint::black_box;
 use std::time::Instant;
 
 type Side = Box<dyn Fn(u32) -> u64>;
 
-/// One measured row: the sides, how many rounds one sample has, and how many units (boxes, calls) one round has.
+/// One measured row: the sides, how many rounds one sample has, and how many units (boxes, calls)
+/// one round has.
 struct Row {
     name: String,
     unit: &'static str,
@@ -34,7 +36,8 @@ fn checks(name: String, unit: &'static str, units: f64, count: u32, file: Vec<u8
     }
 }
 
-/// Calls on files of sums; a conversion is of a file of products, since the editions differ in sums.
+/// Calls on files of sums; a conversion is of a file of products, since the editions differ in
+/// sums.
 fn files(edition: u8, name: String, count: u32, boxes: usize) -> Vec<Row> {
     let one = charts::straight(edition, 2, boxes);
     let both = [one.clone(), charts::straight(edition, 2, boxes - 1)].concat();
@@ -88,9 +91,10 @@ fn rewrites() -> Row {
     }
 }
 
-/// All charts have two inputs, and edition 1 where a row names none, but for the rewriting, which edition 2 alone has. In long runs input 0 is withheld: its
-/// mark goes through the assignments that read it and reaches no decision, so that the run goes on to the limit. Health checks allow both inputs and end
-/// with a value.
+/// All charts have two inputs, and edition 1 where a row names none, but for the rewriting, which
+/// edition 2 alone has. In long runs input 0 is withheld: its mark goes through the assignments
+/// that read it and reaches no decision, so that the run goes on to the limit. Health checks allow
+/// both inputs and end with a value.
 fn rows() -> Vec<Row> {
     let mut rows = Vec::new();
     let editions = [(1, ""), (2, ", edition 2")];
@@ -126,7 +130,8 @@ fn median(mut times: Vec<f64>) -> f64 {
     times[times.len() / 2]
 }
 
-/// The medians of a row's sides, in nanoseconds a unit; every side gives the same sum in every sample.
+/// The medians of a row's sides, in nanoseconds a unit; every side gives the same sum in every
+/// sample.
 fn measure(row: &Row, samples: usize) -> [f64; 3] {
     let sides: Vec<&Side> = [Some(&row.ours), Some(&row.plain), row.by_value.as_ref()].into_iter().flatten().collect();
     let mut times = vec![Vec::new(); sides.len()];

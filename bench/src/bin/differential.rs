@@ -1,4 +1,5 @@
-//! Random and damaged charts and lists of calls through the exported functions and through plain Rust, for so many seconds, to the first difference.
+//! Random and damaged charts and lists of calls through the exported functions and through plain
+//! Rust, for so many seconds, to the first difference.
 //!
 //! `differential SECONDS [SEED]`
 use bench::kinds::{numbers, place, shown, NO_CALL};
@@ -9,8 +10,8 @@ use std::time::{Duration, Instant};
 
 const STRIDE: usize = 24;
 
-/// A list of calls as numbers, the files that its loads, shows and conversions name, and where those begin in which two box blocks are exchanged and those
-/// that plain Rust converted.
+/// A list of calls as numbers, the files that its loads, shows and conversions name, and where
+/// those begin in which two box blocks are exchanged and those that plain Rust converted.
 struct Script {
     files: Vec<u8>,
     words: Vec<[u32; STRIDE]>,
@@ -45,7 +46,8 @@ fn begin(random: &mut Random, k: u32) -> [u32; STRIDE] {
     words
 }
 
-/// An amount to advance by: of any size, and often the limit of the last begin or near it, from which on a high-water run accepts amounts.
+/// An amount to advance by: of any size, and often the limit of the last begin or near it, from
+/// which on a high-water run accepts amounts.
 fn amount(random: &mut Random, limit: u32) -> u32 {
     match random.below(12) {
         0 => 0,
@@ -59,7 +61,8 @@ fn amount(random: &mut Random, limit: u32) -> u32 {
     }
 }
 
-/// How many bytes of the buffer to lend for a file: of any number, and often as many as the file has, or one fewer.
+/// How many bytes of the buffer to lend for a file: of any number, and often as many as the file
+/// has, or one fewer.
 fn room(random: &mut Random, length: u32) -> u32 {
     match random.below(6) {
         0 => random.below(2600),
@@ -80,7 +83,8 @@ fn conversion(file: &[u8]) -> Option<Vec<u8>> {
 }
 
 impl Script {
-    /// Puts a file of k inputs among the files, a load of it and other calls in the list; `limit` is that of the last begin.
+    /// Puts a file of k inputs among the files, a load of it and other calls in the list; `limit`
+    /// is that of the last begin.
     fn add(&mut self, random: &mut Random, file: &[u8], k: u32, limit: &mut u32) {
         let (from, length) = (self.files.len() as u32, file.len() as u32);
         self.files.extend(file);

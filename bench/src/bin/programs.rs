@@ -1,5 +1,5 @@
-//! Times the run program beside the plain Rust one and, where LuaJIT is installed, the Lua one, on the same lines: alternating, medians, and the same
-//! output byte for byte.
+//! Times the run program beside the plain Rust one and, where LuaJIT is installed, the Lua one, on
+//! the same lines: alternating, medians, and the same output byte for byte.
 //!
 //! `programs FLOWRUN PLAIN LUA-FILE FOLDER`: the folder gets the charts, the lines and the outputs.
 use bench::charts;

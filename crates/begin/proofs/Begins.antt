@@ -1,5 +1,6 @@
--- Laws of what a run begins with: the limit, the lengths of the variables and marks, each of them by its place, what holds of every mark, and that two
--- begins agree on what has no mark. Assumes nothing.
+-- Laws of what a run begins with: the limit, the lengths of the variables and marks, each of them
+-- by its place, what holds of every mark, and that two begins agree on what has no mark. Assumes
+-- nothing.
 use Prim.Native.Nat.{ℕ, zero, suc, _-_, _^_, _≤_, _<_, min}
 use mathlib.Core.Path.{_≡_, refl, ap, sym, _∙_, subst}
 use mathlib.Core.Logic.{⊎-elim}
@@ -76,7 +77,8 @@ marks-past a k j f =
     getD-zeros (withheldMarks a (min 16 k)) (32 - min 16 k) j
     ∙ List·getD-eq-default (withheldMarks a (min 16 k)) 0 (omega (arith, length-withheld a (min 16 k)))
 
--- What holds of no mark, and of each withheld input alone, holds of every mark that a run begins with.
+-- What holds of no mark, and of each withheld input alone, holds of every mark that a run begins
+-- with.
 pub marks-all : (P : ℕ → Type 0) (a k : ℕ) → P 0 → ((j : ℕ) → j < k → allows a j ≡ false → P (2 ^ j)) → (v : ℕ) → P (getD (firstMarks a k) v 0)
 unfolding firstMarks withheldMark
 marks-all P a k none own v = on (decLt v (min 16 k))
@@ -98,7 +100,8 @@ allowed-at : (a j : ℕ) → withheldMark a j ≡ 0 → allows a j ≡ true
 unfolding withheldMark
 allowed-at a j e = no-mark (allows a j) j e
 
--- Two begins whose inputs differ at most where they are withheld give each variable without a mark one value.
+-- Two begins whose inputs differ at most where they are withheld give each variable without a mark
+-- one value.
 pub first-agree : (a k : ℕ) (i i′ : List ℕ) → k ≤ 16 → length i ≡ k → length i′ ≡ k
     → ((j : ℕ) → j < k → allows a j ≡ true → getD i j 0 ≡ getD i′ j 0)
     → (j : ℕ) → getD (firstMarks a k) j 0 ≡ 0 → getD (firstVars i) j 0 ≡ getD (firstVars i′) j 0

@@ -1,5 +1,5 @@
--- The two loops that fill places of 32, which are 0 at first: what one store more adds, and what stands there after the last of them.
--- Assumes nothing.
+-- The two loops that fill places of 32, which are 0 at first: what one store more adds, and what
+-- stands there after the last of them. Assumes nothing.
 use Prim.Native.Nat.{ℕ, _+_, _-_, _<_, min}
 use mathlib.Core.Path.{_≡_, ap, sym, _∙_}
 use mathlib.Core.List.{List, [], _∷_, _++_}

@@ -20,12 +20,14 @@ has set j = eqb (set / 2 ^ j % 2) 1
 abbrev pub allows : ℕ → ℕ → Bool
 allows allowed j = has allowed j
 
--- "Inputs are copied, other variables are 0": the 32 variables. An accepted begin lends at most 16 inputs.
+-- "Inputs are copied, other variables are 0": the 32 variables. An accepted begin lends at most 16
+-- inputs.
 unfoldable pub firstVars : List ℕ → List ℕ
 firstVars inputs = take 32 inputs ++ replicate (32 - length inputs) 0
 
--- "each withheld input is marked and nothing else is", and 02, a: "A withheld input begins with itself alone". The set of an input, those of the
--- first k inputs, and those of all 32 variables: "Variables 0 to 15 are inputs".
+-- "each withheld input is marked and nothing else is", and 02, a: "A withheld input begins with
+-- itself alone". The set of an input, those of the first k inputs, and those of all 32 variables:
+-- "Variables 0 to 15 are inputs".
 unfoldable pub withheldMark : ℕ → ℕ → ℕ
 withheldMark allowed j = cond (allows allowed j) 0 (2 ^ j)
 

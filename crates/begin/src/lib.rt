@@ -48,7 +48,8 @@ fn withheld_mark(allowed: u32, j: usize) -> u16
     }
 }
 
-// The marks at the start of a run: of the withheld inputs among the first k, at most 16 of them, and no other.
+// The marks at the start of a run: of the withheld inputs among the first k, at most 16 of them,
+// and no other.
 pub fn first_marks(allowed: u32, k: u8) -> [u16; 32]
     ensures { λ r. ⌜ r ≡ firstMarks allowed k ⌝ }
 {

@@ -1,5 +1,5 @@
-// For the benchmark, to be timed: many rounds of one call; what each tells is folded into a sum. The functions have no equations: the benchmark compares the sums
-// with those of plain Rust.
+// For the benchmark, to be timed: many rounds of one call; what each tells is folded into a sum.
+// The functions have no equations: the benchmark compares the sums with those of plain Rust.
 use runner::Runner;
 use told::Encoded;
 ghost use Prim.Native.Nat.{_≤_};
@@ -92,8 +92,8 @@ fn either(first: bool, one: Runner, other: Runner) -> Runner {
     if first { one } else { other }
 }
 
-// Rewritings of two charts in turn, whose files are each a half of the lent bytes. The last chart rewritten is written back, and the first byte of the check of its
-// first boxes is folded too.
+// Rewritings of two charts in turn, whose files are each a half of the lent bytes. The last chart
+// rewritten is written back, and the first byte of the check of its first boxes is folded too.
 #[no_mangle]
 pub extern "C" fn flow_rewrites(files: &[u8], buf: &mut [u8], rounds: u32) -> u64 {
     let half = files.len() / 2;

@@ -1,4 +1,5 @@
--- Laws of && and ||: what a conjunction or a disjunction that holds says of its parts; and what never holds is false, what never fails true. Assumes nothing.
+-- Laws of && and ||: what a conjunction or a disjunction that holds says of its parts; and what
+-- never holds is false, what never fails true. Assumes nothing.
 use mathlib.Core.Path.{_≡_, refl}
 use mathlib.Core.List.{List, [], _∷_}
 use mathlib.Core.Bool.{Bool, true, false, _&&_, _||_, false≢true}

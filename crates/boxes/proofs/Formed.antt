@@ -1,4 +1,5 @@
--- Ten bytes obey the rules of a box where they obey those of their kind: the rules of the other kinds ask for another byte 0. Assumes nothing.
+-- Ten bytes obey the rules of a box where they obey those of their kind: the rules of the other
+-- kinds ask for another byte 0. Assumes nothing.
 use Prim.Native.Nat.{ℕ}
 use mathlib.Core.Path.{_≡_, refl}
 use mathlib.Core.List.{List}

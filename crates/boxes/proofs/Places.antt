@@ -1,5 +1,6 @@
--- Laws of part and boxOf: byte k of a part that starts at byte i is byte i + k of the whole, so byte i of box p is byte 10 * p + i of the table, and past the
--- table there is no box. part-byte; box-byte, box-kind; no-box. Assumes nothing.
+-- Laws of part and boxOf: byte k of a part that starts at byte i is byte i + k of the whole, so
+-- byte i of box p is byte 10 * p + i of the table, and past the table there is no box. part-byte;
+-- box-byte, box-kind; no-box. Assumes nothing.
 use Prim.Native.Nat.{ℕ, _+_, _*_, _≤_, _<_}
 use mathlib.Core.Path.{_≡_, ap, _∙_}
 use mathlib.Core.List.{List, []}

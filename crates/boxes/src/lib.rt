@@ -23,7 +23,8 @@ fn can_read(k: u8, v: u8) -> bool
     (v < k) | ((16 <= v) & (v <= 31))
 }
 
-// Whether an operation reads its right operand, which is where the editions differ in what they read.
+// Whether an operation reads its right operand, which is where the editions differ in what they
+// read.
 pub fn reads_right(edition: u8, op: u8) -> bool
     ensures { λ r. ⌜ r ≡ readsRight edition op ⌝ }
 {

@@ -1,4 +1,5 @@
--- What an accepted begin, advance, write back and rewriting say of their arguments: each of their rules has been kept. Assumes nothing.
+-- What an accepted begin, advance, write back and rewriting say of their arguments: each of their
+-- rules has been kept. Assumes nothing.
 use Prim.Native.Nat.{ℕ, _/_, _^_, _≤_}
 use mathlib.Core.Path.{_≡_, refl}
 use mathlib.Core.List.{List}

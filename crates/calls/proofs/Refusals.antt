@@ -1,4 +1,5 @@
--- What begin, advance, write back and the rewriter are told at each of their rules, from the facts that lead there; what begin and the rewriter ask first is said once. Assumes nothing.
+-- What begin, advance, write back and the rewriter are told at each of their rules, from the facts
+-- that lead there; what begin and the rewriter ask first is said once. Assumes nothing.
 use Prim.Native.Nat.{ℕ, _/_, _^_, _≤_, _<_}
 use mathlib.Core.Path.{_≡_, refl, sym, _∙_}
 use mathlib.Core.List.{List}
@@ -25,7 +26,8 @@ module _ (s : Standing) where
   pub tells-rest : inRange (s .header) ≡ true → s .running ≡ false → Done ≡ atRest s Done
   tells-rest held e = rw (held, e)
 
-  -- What it refuses it refuses whatever else is asked, and where it lets pass a chart is held, and the rest decides.
+  -- What it refuses it refuses whatever else is asked, and where it lets pass a chart is held, and
+  -- the rest decides.
   pub not-at-rest : (x : Refusal) (otherwise : Verdict) → atRest s Done ≡ Refused x → atRest s Done ≡ atRest s otherwise
   not-at-rest x otherwise e = on (inRange (s .header)) refl (s .running) refl
     where

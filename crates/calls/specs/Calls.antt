@@ -1,4 +1,5 @@
--- The seven calls, and what refuses each of them: by one definition, with the refusals in the documents' order.
+-- The seven calls, and what refuses each of them: by one definition, with the refusals in the
+-- documents' order.
 use Prim.Native.Nat.{ℕ, _/_, _^_}
 use mathlib.Core.List.{List}
 use mathlib.Core.Bool.{Bool, cond, not}
@@ -14,7 +15,8 @@ use Rattle.calls.specs.declared.Standing.{Standing}
 use Rattle.calls.specs.declared.Verdict.{Verdict}
 use Rattle.calls.specs.declared.Verdict.the-variants.{Done, Refused}
 
--- "The calls are all that take the runner: load, begin, advance, answer, abandon and write back." 02, g: "the rewriter joins the calls".
+-- "The calls are all that take the runner: load, begin, advance, answer, abandon and write back."
+-- 02, g: "the rewriter joins the calls".
 pub data Call : Type 0 where
   load : (file : List ℕ) → Call
   begin : (mode : ℕ) (inputs : List ℕ) (allowed limit : ℕ) → Call
@@ -45,12 +47,15 @@ unfoldable pub fileVerdict : Checked → Verdict
 fileVerdict (checked.Accepted h) = Done
 fileVerdict (checked.Refused x) = Refused x
 
--- "State comes before input. Load: 22, then 1 to 6 in order. Begin: 21, 22, 7, 9, 8, 10. Write back: 21, 12."
--- "7: mode above 2"; "8: the allowed set has a bit at k or above"; "9: the inputs lent aren't k in number"; "10: limit above 65,535"; "12: the buffer
--- for writing back is shorter than the file". "21: no chart held (begin, write back)"; "22: a run is under way (load, begin)"; "23: no run is under
--- way (advance, abandon)"; "24: no ended run (answer)". Write back is "Allowed during a run". 02, b: "It refuses, with 13 and after 23, an advance by less
--- than the run's limit in high-water mode." 02, g: the rewriter "refuses, with 21, when no chart is held, with 22 during a run, and only then with 15 when the chart is edition
--- 1"; an edition that is not 2 is as 1.
+-- "State comes before input. Load: 22, then 1 to 6 in order. Begin: 21, 22, 7, 9, 8, 10. Write
+-- back: 21, 12."
+-- "7: mode above 2"; "8: the allowed set has a bit at k or above"; "9: the inputs lent aren't k in
+-- number"; "10: limit above 65,535"; "12: the buffer for writing back is shorter than the file".
+-- "21: no chart held (begin, write back)"; "22: a run is under way (load, begin)"; "23: no run is
+-- under way (advance, abandon)"; "24: no ended run (answer)". Write back is "Allowed during a run".
+-- 02, b: "It refuses, with 13 and after 23, an advance by less than the run's limit in high-water
+-- mode." 02, g: the rewriter "refuses, with 21, when no chart is held, with 22 during a run, and
+-- only then with 15 when the chart is edition 1"; an edition that is not 2 is as 1.
 unfoldable pub check : Call → Standing → Verdict
 check (load file) s = refuseIf (s .running) 22 (fileVerdict (checkFile file))
 check (begin mode inputs allowed limit) s =

@@ -1,4 +1,5 @@
-// What refuses a begin, an advance, a write back and a rewriting, in order. The refusals of the other calls are one test each, and load's file has its own checks.
+// What refuses a begin, an advance, a write back and a rewriting, in order. The refusals of the
+// other calls are one test each, and load's file has its own checks.
 use format::Header;
 use format::Refusal;
 ghost use mathlib.Core.Path.{_≡_};
@@ -11,7 +12,8 @@ pub enum Verdict {
     Refused(Refusal),
 }
 
-// What the refusals look at of a runner: the header of the chart held, whether a run is under way, the least amount by which it may be advanced, and whether there is an ended run.
+// What the refusals look at of a runner: the header of the chart held, whether a run is under way,
+// the least amount by which it may be advanced, and whether there is an ended run.
 pub struct Standing {
     pub header: Header,
     pub running: bool,

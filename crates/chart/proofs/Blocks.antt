@@ -1,4 +1,5 @@
--- Laws of the blocks of a chart's file: their lengths, what the block writer leaves, and block 0 among them.
+-- Laws of the blocks of a chart's file: their lengths, what the block writer leaves, and block 0
+-- among them.
 -- length-body, blocks-sized; sealed-part; body-first, body-later, sealed-is. Assumes nothing.
 use Prim.Native.Nat.{ℕ, zero, suc, _*_, _-_, _/_, _%_, _≤_}
 use mathlib.Core.Path.{_≡_, refl, ap, sym, _∙_}

@@ -1,5 +1,6 @@
--- Laws of joined: one piece more, its length, a piece of it, the same pieces; and how a loop that lends the rest of a list joins the pieces.
--- joined-more, joined-length, joined-rest, joined-same, joined-piece; put-piece. Assumes nothing.
+-- Laws of joined: one piece more, its length, a piece of it, the same pieces; and how a loop that
+-- lends the rest of a list joins the pieces. joined-more, joined-length, joined-rest, joined-same,
+-- joined-piece; put-piece. Assumes nothing.
 use Prim.Native.Nat.{ℕ, zero, suc, _+_, _*_, _≤_, _<_}
 use mathlib.Core.Path.{_≡_, refl, ap, sym, _∙_}
 use mathlib.Core.List.{List, _++_, append-assoc}
@@ -53,7 +54,8 @@ joined-piece piece size (suc count) r j h l =
     below : j < suc count → j ≤ count
     below l = omega arith
 
--- The pieces below j stand at the front of b, and its rest r, lent from size * j on, came back with piece j at its front.
+-- The pieces below j stand at the front of b, and its rest r, lent from size * j on, came back with
+-- piece j at its front.
 pub put-piece : (piece : ℕ → List ℕ) (size j k : ℕ) (b r : List ℕ) → Sized piece size (j + 1) → length r ≤ k → b ≡ joined piece j ++ r
     → putMid (size * j) k b (piece j ++ drop size (take k (drop (size * j) b))) ≡ joined piece (j + 1) ++ drop size r
 put-piece piece size j k b r h l e =

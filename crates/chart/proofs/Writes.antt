@@ -1,5 +1,6 @@
--- What a buffer that takes a file is, and what put file leaves: the file in a buffer that has room for it, and another buffer as it was.
--- takes-file, takes-what; put-fits, put-short. Assumes nothing.
+-- What a buffer that takes a file is, and what put file leaves: the file in a buffer that has room
+-- for it, and another buffer as it was. takes-file, takes-what; put-fits, put-short. Assumes
+-- nothing.
 use Prim.Native.Nat.{ℕ, _≤_}
 use mathlib.Core.Path.{_≡_}
 use mathlib.Core.List.{List}

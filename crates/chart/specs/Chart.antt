@@ -1,4 +1,5 @@
--- The chart that a file holds, and the file that holds a chart: a header and a table of 204 places of ten bytes.
+-- The chart that a file holds, and the file that holds a chart: a header and a table of 204 places
+-- of ten bytes.
 use Prim.Native.Nat.{ℕ, zero, suc, _+_, _*_, _-_, _/_, min}
 use mathlib.Core.List.{List, [], _∷_, _++_}
 use lib.ListN.{length, replicate}
@@ -32,8 +33,8 @@ pub record Chart : Type 0 where
 abbrev pub chartOf : List ℕ → Chart
 chartOf f = record { header = headerOf f; table = tableOf f }
 
--- Bytes 0 to 509 of block 0: "the ASCII letters FLOW; byte 4 the edition ..; byte 5 the number of inputs k ..; byte 6 the number of boxes n
--- ..; byte 7 the first box run ..; bytes 8 to 509 are 0".
+-- Bytes 0 to 509 of block 0: "the ASCII letters FLOW; byte 4 the edition ..; byte 5 the number of
+-- inputs k ..; byte 6 the number of boxes n ..; byte 7 the first box run ..; bytes 8 to 509 are 0".
 unfoldable pub headerBody : Header → List ℕ
 headerBody h = (70 ∷ 76 ∷ 79 ∷ 87 ∷ h .edition ∷ h .inputs ∷ h .boxes ∷ h .first ∷ []) ++ replicate 502 0
 

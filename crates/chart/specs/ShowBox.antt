@@ -1,5 +1,6 @@
--- "Show a box: needs no runner. It takes a file and a number and returns the ten bytes of that box as a part of the lent file, or an empty
--- part exactly when load's input checks would refuse the file or the number isn't below n."
+-- "Show a box: needs no runner. It takes a file and a number and returns the ten bytes of that box
+-- as a part of the lent file, or an empty part exactly when load's input checks would refuse the
+-- file or the number isn't below n."
 use Prim.Native.Nat.{ℕ, _+_}
 use mathlib.Core.Path.{_≡_}
 use mathlib.Core.List.{List}

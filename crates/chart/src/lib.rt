@@ -1,4 +1,5 @@
-// A chart out of its file and back: the box table of a file, the file of a chart, and one box of a file.
+// A chart out of its file and back: the box table of a file, the file of a chart, and one box of a
+// file.
 use format::Checked;
 use format::Header;
 use format::Refusal;
@@ -110,7 +111,8 @@ fn write_file(header: Header, table: &[u8], buf: &mut [u8])
     }
 }
 
-// The file of a chart at the front of a lent buffer that has room for it; another buffer is left as it was.
+// The file of a chart at the front of a lent buffer that has room for it; another buffer is left as
+// it was.
 pub fn put_file(header: Header, table: &[u8; 2040], buf: &mut [u8])
     ensures { λ _. ⌜ now (buf .exit) ≡ putFile header (now (table .entry)) (now (buf .entry)) ⌝ }
 {
@@ -120,7 +122,8 @@ pub fn put_file(header: Header, table: &[u8; 2040], buf: &mut [u8])
     }
 }
 
-// The ten bytes of a box as a part of the lent file; an empty part where load would refuse the file or no box has the number.
+// The ten bytes of a box as a part of the lent file; an empty part where load would refuse the file
+// or no box has the number.
 pub fn show_box(file: &[u8], number: u32) -> &[u8]
     ensures { λ r. ⌜ IsPart (showBox (now (file .entry)) number) (file .entry) r ⌝ }
 {

@@ -1,5 +1,6 @@
--- Blocks of an accepted file of edition 2 that are out of order. The blocks below b and byte 4 of block 0 stay, so the checks below b hold; the block in the
--- place of b, sealed for its own place, isn't sealed for this one. Assumes nothing.
+-- Blocks of an accepted file of edition 2 that are out of order. The blocks below b and byte 4 of
+-- block 0 stay, so the checks below b hold; the block in the place of b, sealed for its own place,
+-- isn't sealed for this one. Assumes nothing.
 use Prim.Native.Nat.{ℕ, _*_, _/_, _≤_, _<_}
 use mathlib.Core.Path.{_≡_, refl, ap, sym, _∙_}
 use mathlib.Core.List.{List, [], append-nil}

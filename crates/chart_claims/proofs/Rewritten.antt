@@ -1,6 +1,8 @@
--- A rewritten table. Its boxes are joined, so place p has the box that it gets by itself. A kept box keeps the rules that it kept; a choice keeps its own because the
--- decision and the two copies that it is made of kept theirs; a place past the boxes is zero, so no decision, and stays. The new table has the old
--- one's copies, so what is judged on it is judged as on the old one, and nothing is left to replace. Assumes nothing.
+-- A rewritten table. Its boxes are joined, so place p has the box that it gets by itself. A kept
+-- box keeps the rules that it kept; a choice keeps its own because the decision and the two copies
+-- that it is made of kept theirs; a place past the boxes is zero, so no decision, and stays. The
+-- new table has the old one's copies, so what is judged on it is judged as on the old one, and
+-- nothing is left to replace. Assumes nothing.
 use Prim.Native.Nat.{ℕ, _≤_, _<_}
 use mathlib.Core.Path.{_≡_, refl, ap, sym, subst, _∙_}
 use mathlib.Core.List.{List, [], _∷_}

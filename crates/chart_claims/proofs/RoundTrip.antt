@@ -1,5 +1,6 @@
--- The round trip. Each block of an accepted file is its first 510 bytes with their check; those bytes are the header's or stand in the box
--- table; so the blocks that write back joins are the file's, and what holds of the file holds of what is written. Assumes nothing.
+-- The round trip. Each block of an accepted file is its first 510 bytes with their check; those
+-- bytes are the header's or stand in the box table; so the blocks that write back joins are the
+-- file's, and what holds of the file holds of what is written. Assumes nothing.
 use Prim.Native.Nat.{ℕ, zero, suc, _+_, _*_, _-_, _≤_, _<_}
 use mathlib.Core.Path.{_≡_, refl, ap, sym, _∙_}
 use mathlib.Core.List.{List, [], _∷_, _++_}

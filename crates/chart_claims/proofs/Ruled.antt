@@ -1,5 +1,7 @@
--- A chart that obeys the rules has a file that load accepts, and that file's chart is it. Block j of the file is the j-th block that was joined, so its front is the header's,
--- its checks hold, its places are the boxes of the table, and what the blocks leave of the table is zeros. Assumes nothing.
+-- A chart that obeys the rules has a file that load accepts, and that file's chart is it. Block j
+-- of the file is the j-th block that was joined, so its front is the header's, its checks hold, its
+-- places are the boxes of the table, and what the blocks leave of the table is zeros. Assumes
+-- nothing.
 use Prim.Native.Nat.{ℕ, zero, suc, _+_, _*_, _-_, _/_, _%_, _≤_, _<_}
 use mathlib.Core.Path.{_≡_, refl, ap, sym, _∙_}
 use mathlib.Core.List.{List, [], append-nil}

@@ -1,5 +1,6 @@
--- The boxes of a loaded table obey the box rules. Place p of the file is box p of the table, since the table's pieces are the file's blocks
--- of boxes; the file's checks say that place p breaks no rule; and the rules, kind by kind, say what is in range. Assumes nothing.
+-- The boxes of a loaded table obey the box rules. Place p of the file is box p of the table, since
+-- the table's pieces are the file's blocks of boxes; the file's checks say that place p breaks no
+-- rule; and the rules, kind by kind, say what is in range. Assumes nothing.
 use Prim.Native.Nat.{ℕ, _+_, _*_, _-_, _/_, _%_, _≤_, _<_}
 use mathlib.Core.Path.{_≡_, ap, sym, _∙_}
 use mathlib.Core.List.{List, [], _∷_}

@@ -28,7 +28,8 @@ LastBoxShown =
     → p + 1 ≡ h .boxes
     → part f (showBox f p .start) (showBox f p .size) ≡ boxOf (tableOf f) p
 
--- "Two .. box blocks exchanged": the first of them with the last, also where the two are neighbours.
+-- "Two .. box blocks exchanged": the first of them with the last, also where the two are
+-- neighbours.
 abbrev pub EndsExchanged : Type 0
 EndsExchanged =
     (f : List ℕ) (h : Header) (j : ℕ)
@@ -38,15 +39,16 @@ EndsExchanged =
     → j ≢ 1
     → (blockOf f 1 ≢ blockOf f j) × (checkFile (exchanged 1 j f) ≡ Refused (refusal 2 1))
 
--- Edition 1 or 2; "k, 0 to 16"; "n, 1 to 204"; "the first box run, below n": no number is the first one out of range.
+-- Edition 1 or 2; "k, 0 to 16"; "n, 1 to 204"; "the first box run, below n": no number is the first
+-- one out of range.
 pub record HeaderBounds (h : Header) : Type 0 where
   pub edition : (h .edition ≢ 0) × (h .edition ≢ 3)
   pub inputs : h .inputs ≢ 17
   pub boxes : (h .boxes ≢ 0) × (h .boxes ≢ 205)
   pub first : h .first ≢ h .boxes
 
--- The kinds are 1, assignment, 2, decision, 3, halt, and in edition 2 also 4, choice. "target, 16 to 31"; operations 0 to 11 and comparisons 0 to 2; operands below 32; "A
--- next box is below n."
+-- The kinds are 1, assignment, 2, decision, 3, halt, and in edition 2 also 4, choice. "target, 16
+-- to 31"; operations 0 to 11 and comparisons 0 to 2; operands below 32; "A next box is below n."
 pub record BoxBounds (edition n : ℕ) (b : List ℕ) : Type 0 where
   pub kind : (at b 0 ≢ 0) × (at b 0 ≢ 5)
   pub lacks : edition ≡ 1 → at b 0 ≢ 4

@@ -1,4 +1,5 @@
--- What is claimed of the definitions: the file's half of demand 2, the rules that a loaded chart obeys, that any chart which obeys them has a file that loads to it, what show a box shows, and
+-- What is claimed of the definitions: the file's half of demand 2, the rules that a loaded chart
+-- obeys, that any chart which obeys them has a file that loads to it, what show a box shows, and
 -- the ranges of the numbers in a loaded chart.
 use Prim.Native.Nat.{ℕ, _≤_, _<_}
 use mathlib.Core.Path.{_≡_}
@@ -17,7 +18,8 @@ use Rattle.chart.specs.WriteBack.{fileLength, hasRoom, putFile}
 abbrev pub FileHasLength : Type 0
 FileHasLength = (h : Header) (table : List ℕ) → inRange h ≡ true → length table ≡ 2040 → length (fileOf h table) ≡ fileLength h
 
--- "Writing back a loaded chart reproduces its file": its bytes, and so a buffer at least as long has room and holds the file at its
+-- "Writing back a loaded chart reproduces its file": its bytes, and so a buffer at least as long
+-- has room and holds the file at its
 -- front, "and bytes past the file are untouched".
 abbrev pub ReproducesFile : Type 0
 ReproducesFile =
@@ -36,8 +38,8 @@ ReproducesChart =
     → checkFile f ≡ Accepted h
     → (checkFile (fileOf h (tableOf f)) ≡ Accepted h) × (tableOf (fileOf h (tableOf f)) ≡ tableOf f)
 
--- A chart that obeys the rules: its header's numbers are those of a file, its table has 204 places of ten bytes, its boxes break no rule, and the places past them
--- are zero.
+-- A chart that obeys the rules: its header's numbers are those of a file, its table has 204 places
+-- of ten bytes, its boxes break no rule, and the places past them are zero.
 pub record Ruled (h : Header) (table : List ℕ) : Type 0 where
   pub edition : isEdition (h .edition) ≡ true
   pub ranged : inRange h ≡ true
@@ -56,7 +58,8 @@ RuledIsLoaded =
     → Ruled h table
     → (checkFile (fileOf h table) ≡ Accepted h) × (tableOf (fileOf h table) ≡ table)
 
--- "returns the ten bytes of that box": of an accepted file and a number below n, the part that is shown is the box that the table holds.
+-- "returns the ten bytes of that box": of an accepted file and a number below n, the part that is
+-- shown is the box that the table holds.
 abbrev pub ShowsTheBox : Type 0
 ShowsTheBox =
     (f : List ℕ) (h : Header) (p : ℕ)
@@ -72,7 +75,8 @@ pub record HeaderInRange (h : Header) : Type 0 where
   pub fits : h .boxes ≤ 204
   pub start : h .first < h .boxes
 
--- The numbers in a box of a chart of an edition and n boxes: a kind 1 to 3, or 4 in edition 2, operands and targets below 32, next boxes below n.
+-- The numbers in a box of a chart of an edition and n boxes: a kind 1 to 3, or 4 in edition 2,
+-- operands and targets below 32, next boxes below n.
 pub data BoxInRange (edition n : ℕ) (b : List ℕ) : Type 0 where
   assignment : at b 0 ≡ 1 → 16 ≤ at b 1 → at b 1 < 32 → at b 2 ≤ 11 → at b 3 < 32 → at b 4 < 32 → at b 5 < n → BoxInRange edition n b
   decision : at b 0 ≡ 2 → at b 2 ≤ 2 → at b 3 < 32 → at b 4 < 32 → at b 5 < n → at b 6 < n → BoxInRange edition n b

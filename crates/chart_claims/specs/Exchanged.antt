@@ -1,5 +1,6 @@
--- 02, d: "A chart joined from a ticket with its box blocks out of order loaded." In edition 2 it is refused. What changes places is whole blocks of 512
--- bytes, with their checks; a box block is any but block 0.
+-- 02, d: "A chart joined from a ticket with its box blocks out of order loaded." In edition 2 it is
+-- refused. What changes places is whole blocks of 512 bytes, with their checks; a box block is any
+-- but block 0.
 use Prim.Native.Nat.{ℕ, _≤_, _<_}
 use mathlib.Core.Path.{_≡_}
 use mathlib.Core.List.{List}
@@ -23,8 +24,8 @@ inPlaceOf i j b = cond (eqb b i) j (cond (eqb b j) i b)
 abbrev pub exchanged : (i j : ℕ) → List ℕ → List ℕ
 exchanged i j f = rearranged (inPlaceOf i j) f
 
--- "An accepted edition 2 file with two unequal box blocks exchanged is then always turned away": any two are unequal, and it is refused by 2 with the
--- lower of them as detail.
+-- "An accepted edition 2 file with two unequal box blocks exchanged is then always turned away":
+-- any two are unequal, and it is refused by 2 with the lower of them as detail.
 abbrev pub ExchangeRefused : Type 0
 ExchangeRefused =
     (f : List ℕ) (h : Header) (i j : ℕ)
@@ -35,7 +36,8 @@ ExchangeRefused =
     → j < blocksOf f
     → (blockOf f i ≢ blockOf f j) × (checkFile (exchanged i j f) ≡ Refused (refusal 2 i))
 
--- However blocks of the file follow its block 0, some of them twice or not at all: the detail is the first block that is in another's place.
+-- However blocks of the file follow its block 0, some of them twice or not at all: the detail is
+-- the first block that is in another's place.
 abbrev pub OutOfOrderRefused : Type 0
 OutOfOrderRefused =
     (f : List ℕ) (h : Header) (from : ℕ → ℕ) (b : ℕ)

@@ -1,4 +1,5 @@
--- What an accepted call does, which one runs boxes and what it tells, and that a run under way is not answered. Assumes nothing.
+-- What an accepted call does, which one runs boxes and what it tells, and that a run under way is
+-- not answered. Assumes nothing.
 use Prim.Native.Nat.{ℕ}
 use mathlib.Core.Path.{_≡_, ap, subst}
 use mathlib.Core.Bool.{cond}

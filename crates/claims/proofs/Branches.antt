@@ -1,5 +1,5 @@
--- Laws that several proofs here share: constructors told apart, a branch on one test on both sides, a store at one place of lists that go
--- together. clash; cond-both; set-each. Assumes nothing.
+-- Laws that several proofs here share: constructors told apart, a branch on one test on both sides,
+-- a store at one place of lists that go together. clash; cond-both; set-each. Assumes nothing.
 use Prim.Native.Nat.{ℕ, _≤_, _<_}
 use mathlib.Core.Path.{_≡_}
 use mathlib.Core.List.{List}

@@ -1,4 +1,5 @@
--- The claims about held charts and the round trip, from what holds of every reachable runner. Assumes nothing.
+-- The claims about held charts and the round trip, from what holds of every reachable runner.
+-- Assumes nothing.
 use Prim.Native.Nat.{ℕ, _≤_}
 use mathlib.Core.Path.{_≡_, refl, ap, sym, _∙_}
 use mathlib.Core.List.{List, [], _∷_, _++_}

@@ -1,5 +1,6 @@
--- Lists of advances, answers, write backs and refused calls only run boxes: as many as the advances ask for, or fewer where the run ends or, with counts hidden, an
--- advance is refused. And what each of their calls replies. Assumes nothing.
+-- Lists of advances, answers, write backs and refused calls only run boxes: as many as the advances
+-- ask for, or fewer where the run ends or, with counts hidden, an advance is refused. And what each
+-- of their calls replies. Assumes nothing.
 use Prim.Native.Nat.{ℕ, _+_, _≤_, _<_}
 use mathlib.Core.Path.{_≡_, refl, ap, sym, _∙_, subst}
 use mathlib.Core.List.{List, [], _∷_, List·Memᴰ, List·Memᴰ·cases-cons, List·Memᴰ·not-nil}
@@ -240,7 +241,8 @@ module _ (r : Runner) (on : r .state ≡ 1) where
         is = ap (final cs) (one .is) ∙ rest .is;
       }
 
-  -- What a call of the list replies: without steps; what an accepted advance tells of the run; or the ending that it is over with.
+  -- What a call of the list replies: without steps; what an accepted advance tells of the run; or
+  -- the ending that it is over with.
   pub data Replied : Reply → Type 0 where
     did : Replied done
     holds : {inputs boxes : ℕ} → Replied (chart inputs boxes)

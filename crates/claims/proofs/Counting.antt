@@ -1,4 +1,5 @@
--- How a run counts its boxes: one each, up to an ending or to its limit, which it never passes. Assumes nothing.
+-- How a run counts its boxes: one each, up to an ending or to its limit, which it never passes.
+-- Assumes nothing.
 use Prim.Native.Nat.{ℕ, zero, suc, _+_, _≤_, _<_}
 use mathlib.Core.Path.{_≡_, refl, ap, _∙_}
 use mathlib.Core.List.{List}
@@ -46,7 +47,8 @@ module _ (flow : ℕ → Box) where
     pub comes : run flow boxes (going q) ≡ going before
     pub counted : before .steps ≡ q .steps + boxes
 
-  -- What m boxes make of a run below its limit: it has ended within the limit, or m boxes more are counted below it.
+  -- What m boxes make of a run below its limit: it has ended within the limit, or m boxes more are
+  -- counted below it.
   pub data After (m : ℕ) (q : Run) : Progress → Type 0 where
     ended-within : {e : Ending} {steps : ℕ} → EndedIn m q e steps → steps ≤ q .limit → After m q (over e steps)
     counted-below : {next : Run} → next .steps ≡ q .steps + m → next .steps < q .limit → After m q (going next)

@@ -1,4 +1,5 @@
--- The box at a place whose ten bytes are in range goes on to a box of the chart, and one that obeys the rules reads what the rules allow. Assumes nothing.
+-- The box at a place whose ten bytes are in range goes on to a box of the chart, and one that obeys
+-- the rules reads what the rules allow. Assumes nothing.
 use Prim.Native.Nat.{ℕ, _<_}
 use mathlib.Core.List.{List, [], _∷_}
 use mathlib.Core.Path.{_≡_}

@@ -1,5 +1,6 @@
--- Demand 3 whole. The second half: a list that tells a value after the high-water begin comes from a run that is over with it; the surveillance run
--- of the same start keeps pace; and lists of calls that continue a run only run boxes. Assumes nothing.
+-- Demand 3 whole. The second half: a list that tells a value after the high-water begin comes from
+-- a run that is over with it; the surveillance run of the same start keeps pace; and lists of calls
+-- that continue a run only run boxes. Assumes nothing.
 use Prim.Native.Nat.{ℕ, _+_}
 use mathlib.Core.Path.{_≡_, refl, ap, sym, _∙_, subst}
 use mathlib.Core.List.{List}

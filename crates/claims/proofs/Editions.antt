@@ -1,4 +1,5 @@
--- The editions differ where `readsRight`, `hasKind`, `sum` and `difference` look at the edition, and each proof asks them. Assumes nothing.
+-- The editions differ where `readsRight`, `hasKind`, `sum` and `difference` look at the edition,
+-- and each proof asks them. Assumes nothing.
 use Prim.Native.Nat.{ℕ, _+_, _-_, min, max}
 use mathlib.Core.Path.{_≡_, refl}
 use mathlib.Core.List.{List, [], _∷_}

@@ -1,5 +1,5 @@
--- The claims about high-water runs: what is kept of an ending counts a value alone; and an accepted advance asks for the limit or more, and as many boxes end the run.
--- Assumes nothing.
+-- The claims about high-water runs: what is kept of an ending counts a value alone; and an accepted
+-- advance asks for the limit or more, and as many boxes end the run. Assumes nothing.
 use Prim.Native.Nat.{ℕ, _+_}
 use mathlib.Core.Path.{_≡_, refl, ap, sym, _∙_, subst}
 use mathlib.Core.List.{List, []}

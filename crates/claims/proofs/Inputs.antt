@@ -1,4 +1,5 @@
--- The inputs in a set: none in the empty one, those of either part in a union, those of both in a common part, and one alone in the set that it begins with. Assumes nothing.
+-- The inputs in a set: none in the empty one, those of either part in a union, those of both in a
+-- common part, and one alone in the set that it begins with. Assumes nothing.
 use Prim.Native.Nat.{ℕ, suc, _+_, _-_, _*_, _/_, _%_, _^_, _<_, min, max}
 use mathlib.Core.Path.{_≡_, refl, ap, ap₂, sym, _∙_}
 use mathlib.Core.Bool.{Bool, true, false, cond, _&&_, _||_}
@@ -21,7 +22,8 @@ last-bit x = on (ℕ-discrete (x % 2) 1)
     on (yes e) = e ∙ rw (eq-eqb (x % 2) 1 e)
     on (no n) = rw (ne-eqb (x % 2) 1 n) (omega arith)
 
--- An operation on numbers that goes bit by bit joins the bits as its table says; a union and a common part are two.
+-- An operation on numbers that goes bit by bit joins the bits as its table says; a union and a
+-- common part are two.
 module _ (op last : ℕ → ℕ → ℕ) (step : (x y : ℕ) → op x y ≡ op (x / 2) (y / 2) * 2 + last (x % 2) (y % 2))
     (down : (x y k : ℕ) → op x y / 2 ^ k ≡ op (x / 2 ^ k) (y / 2 ^ k)) (join : Bool → Bool → Bool)
     (both : eqb (last 1 1 % 2) 1 ≡ join true true) (left : eqb (last 1 0 % 2) 1 ≡ join true false)

@@ -1,5 +1,6 @@
--- The theorems: laws that several share, a run of boxes, lists of calls, what holds of every reachable runner, demand 3, high-water runs, the marks as sets, the two
--- editions, and the other claims.
+-- The theorems: laws that several share, a run of boxes, lists of calls, what holds of every
+-- reachable runner, demand 3, high-water runs, the marks as sets, the two editions, and the other
+-- claims.
 pub mod Branches
 pub mod Accepting
 pub mod Decoded

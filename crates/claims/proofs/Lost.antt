@@ -1,5 +1,5 @@
--- A high-water run that can tell no value any more: a decision has read a marked variable, or the run is over without a value. It stays so, and of one that is over all
--- is hidden. Assumes nothing.
+-- A high-water run that can tell no value any more: a decision has read a marked variable, or the
+-- run is over without a value. It stays so, and of one that is over all is hidden. Assumes nothing.
 use Prim.Native.Nat.{ℕ}
 use mathlib.Core.Path.{_≡_, refl, sym, _∙_, subst}
 use mathlib.Core.Bool.{true}

@@ -1,6 +1,8 @@
--- The rules of the sets, seen through any question that the empty set answers with no and that unions join, are 01's on marked and unmarked: whether a set is
--- empty, and whether an input is in it. By the last the arithmetic that sets a mark is read bit by bit; that it is the rule of each mode is in `MarkLaws`. And a run whose sets are seen as marks goes as the run does, box by box, since each rule by the mode and each
--- union commutes with seeing a set as a mark. Assumes nothing.
+-- The rules of the sets, seen through any question that the empty set answers with no and that
+-- unions join, are 01's on marked and unmarked: whether a set is empty, and whether an input is in
+-- it. By the last the arithmetic that sets a mark is read bit by bit; that it is the rule of each
+-- mode is in `MarkLaws`. And a run whose sets are seen as marks goes as the run does, box by box,
+-- since each rule by the mode and each union commutes with seeing a set as a mark. Assumes nothing.
 use Prim.Native.Nat.{ℕ, zero, suc, _%_, _^_, _≤_, _<_}
 use mathlib.Core.Path.{_≡_, refl, ap, sym, _∙_}
 use mathlib.Core.List.{List, [], _∷_, map}

@@ -1,5 +1,7 @@
--- The sets that are told. What a list tells with an ending is what its run is over with, so what a run carries holds of the set that is named: it is of
--- withheld inputs. And a box that ends a run names by the mode: under surveillance the marks for which it ends, and else none. Assumes nothing.
+-- The sets that are told. What a list tells with an ending is what its run is over with, so what a
+-- run carries holds of the set that is named: it is of withheld inputs. And a box that ends a run
+-- names by the mode: under surveillance the marks for which it ends, and else none. Assumes
+-- nothing.
 use Prim.Native.Nat.{ℕ, zero, suc, _^_, _<_}
 use mathlib.Core.Path.{_≡_, refl, ap, sym, _∙_, subst}
 use mathlib.Core.List.{List, List·Memᴰ}

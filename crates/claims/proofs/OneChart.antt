@@ -1,5 +1,5 @@
--- Runners that hold one chart have the same header and table: write back gives one file of both, and what each holds is what that file loads.
--- Assumes nothing.
+-- Runners that hold one chart have the same header and table: write back gives one file of both,
+-- and what each holds is what that file loads. Assumes nothing.
 use Prim.Native.Nat.{ℕ, _≤_}
 use mathlib.Core.Path.{_≡_, ap, sym, _∙_}
 use mathlib.Core.List.{List, _++_}

@@ -1,4 +1,5 @@
--- The callers of one file: what each writes back is that file, so they hold one chart, and demand 3 says the rest. Assumes nothing.
+-- The callers of one file: what each writes back is that file, so they hold one chart, and demand 3
+-- says the rest. Assumes nothing.
 use Prim.Native.Nat.{ℕ, _≤_}
 use mathlib.Core.Path.{refl, sym, _∙_}
 use mathlib.Core.List.{List, [], _∷_}

@@ -1,5 +1,6 @@
--- Demand 3, second half. A high-water run and a surveillance run of one start stay in step, surveillance's marks lying under high-water's, until
--- one of them ends or high-water can tell no value any more. An ended run stays still, so both are run to a common number of boxes.
+-- Demand 3, second half. A high-water run and a surveillance run of one start stay in step,
+-- surveillance's marks lying under high-water's, until one of them ends or high-water can tell no
+-- value any more. An ended run stays still, so both are run to a common number of boxes.
 -- Assumes nothing.
 use Prim.Native.Nat.{ℕ, zero, suc, _%_}
 use mathlib.Core.Path.{_≡_, refl, sym, subst}

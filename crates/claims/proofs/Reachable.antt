@@ -1,5 +1,6 @@
--- What holds of every reachable runner: a chart that is held came out of a file, a run under way is in range, and a runner without one is at
--- rest. A new runner has it, a box keeps it, and so does every call. Assumes nothing.
+-- What holds of every reachable runner: a chart that is held came out of a file, a run under way is
+-- in range, and a runner without one is at rest. A new runner has it, a box keeps it, and so does
+-- every call. Assumes nothing.
 use Prim.Native.Nat.{ℕ, _≤_, _<_}
 use mathlib.Core.Path.{_≡_, refl, ap, sym, _∙_, subst}
 use mathlib.Core.List.{List}

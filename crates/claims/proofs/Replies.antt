@@ -1,4 +1,5 @@
--- No two answers of one enum tell the same: constructors are distinct and injective. Assumes nothing.
+-- No two answers of one enum tell the same: constructors are distinct and injective. Assumes
+-- nothing.
 use Prim.Native.Nat.{ℕ}
 use mathlib.Core.Path.{_≡_, refl, ap, _∙_}
 use Rattle.format.specs.File.{refusal}

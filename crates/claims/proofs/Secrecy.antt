@@ -1,5 +1,5 @@
--- Demand 3, first half: two begins in one mode that guards, on one chart with the same allowed inputs, hand back low-equal runners, and low-equal runners
--- tell the same. Assumes nothing.
+-- Demand 3, first half: two begins in one mode that guards, on one chart with the same allowed
+-- inputs, hand back low-equal runners, and low-equal runners tell the same. Assumes nothing.
 use Prim.Native.Nat.{ℕ, _≤_}
 use mathlib.Core.Path.{_≡_, refl, ap, sym, _∙_}
 use mathlib.Core.List.{List}

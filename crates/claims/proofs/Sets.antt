@@ -1,5 +1,6 @@
--- What a run carries: a property that the empty set has and that unions keep, if all the sets of a run have it, stays with them from box to box, and the set
--- named at the end has it. Assumes nothing.
+-- What a run carries: a property that the empty set has and that unions keep, if all the sets of a
+-- run have it, stays with them from box to box, and the set named at the end has it. Assumes
+-- nothing.
 use Prim.Native.Nat.{ℕ, _%_}
 use mathlib.Core.Path.{refl}
 use mathlib.Core.List.{List, [], _∷_}

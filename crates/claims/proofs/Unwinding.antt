@@ -1,6 +1,8 @@
--- Unwinding for the modes that guard. Two runs are low-equal when they are the same; or both are under way at one box and differ only in variables that are marked; or,
--- with the high-water mark, both can tell no value any more. A box keeps that (step consistency). An advance of a high-water run ends it and hides how it was lost, so every
--- call keeps low-equal runners so and tells the same (output consistency); then one induction over the list. Assumes nothing.
+-- Unwinding for the modes that guard. Two runs are low-equal when they are the same; or both are
+-- under way at one box and differ only in variables that are marked; or, with the high-water mark,
+-- both can tell no value any more. A box keeps that (step consistency). An advance of a high-water
+-- run ends it and hides how it was lost, so every call keeps low-equal runners so and tells the
+-- same (output consistency); then one induction over the list. Assumes nothing.
 use Prim.Native.Nat.{ℕ, zero, suc, _%_, _≤_, _<_}
 use mathlib.Core.Path.{_≡_, refl, ap, sym, subst}
 use mathlib.Core.List.{List, [], _∷_}
@@ -58,7 +60,8 @@ abbrev pub withVars : Run → List ℕ → Run
 withVars q w =
     record { vars = w; marks = q .marks; counter = q .counter; mode = q .mode; at = q .at; limit = q .limit; steps = q .steps }
 
--- A mode that guards a run, by the run's mode and counter mark: surveillance, or the high-water mark while no decision has read a marked variable.
+-- A mode that guards a run, by the run's mode and counter mark: surveillance, or the high-water
+-- mark while no decision has read a marked variable.
 pub data Watched : Mode → (mode counter : ℕ) → Type 0 where
   surveyed : {mode counter : ℕ} → modeOf mode ≡ Surveillance → Watched Surveillance mode counter
   unmarked : {mode counter : ℕ} → modeOf mode ≡ HighWater → counter ≡ 0 → Watched HighWater mode counter
@@ -135,7 +138,8 @@ unfolding run
 run-low flow zero h = h
 run-low flow (suc n) h = run-low flow n (onward-low flow h)
 
--- What is kept of low-equal runs, where one that hides its counts is over: the same, or two runs apart under surveillance.
+-- What is kept of low-equal runs, where one that hides its counts is over: the same, or two runs
+-- apart under surveillance.
 data Close : Progress → Progress → Type 0 where
   close : {p : Progress} → Close p p
   still-apart : {q : Run} (w : List ℕ) → Watched Surveillance (q .mode) (q .counter) → Agree (q .marks) (q .vars) w → Close (going q) (going (withVars q w))
@@ -147,7 +151,8 @@ kept-close (runs-apart w (surveyed m) h) o = still-apart w (surveyed m) h
 kept-close (runs-apart w (unmarked m c) h) o = let e = o refl .0 .is in clash cc
 kept-close (both-lost a b) o = rw (lost-hidden a (o refl .0), lost-hidden b (o refl .1)) close
 
--- The runner with other values in its variables, and low-equal runners. Where counts are hidden, a run under way is below its limit.
+-- The runner with other values in its variables, and low-equal runners. Where counts are hidden, a
+-- run under way is below its limit.
 abbrev pub otherVars : Runner → List ℕ → Runner
 otherVars r w = withRun (withVars (runIn r) w) r
 

@@ -23,7 +23,8 @@ use Rattle.claims.specs.Runs.{NotHighWater, AfterBegin, stepsTold}
 use Rattle.claims.specs.Charts.{AllKeepChart}
 use Rattle.claims.specs.Sets.{anyMarked, namedTold}
 
--- Demand 3's second half: after one advance by exactly the limit an answer tells the value that high-water told.
+-- Demand 3's second half: after one advance by exactly the limit an answer tells the value that
+-- high-water told.
 abbrev pub AnswersAtTheLimit : Type 0
 AnswersAtTheLimit =
     (r r′ : Runner) (inputs : List ℕ) (allowed limit limit′ : ℕ)
@@ -32,8 +33,9 @@ AnswersAtTheLimit =
     → SomeAnswer (begun 2 inputs allowed limit r) v steps
     → call answer (call (advance (effective limit′)) (begun 1 inputs allowed limit′ r′) .next) .told ≡ tellsValue v steps
 
--- A run from its start: no call tells one step more than the limit, and one advance by exactly the limit ends it. In high-water mode an advance by one less is refused; in
--- the others it and one by 1 after it end the run, and an advance by m never tells an end in no steps, or in m + 1.
+-- A run from its start: no call tells one step more than the limit, and one advance by exactly the
+-- limit ends it. In high-water mode an advance by one less is refused; in the others it and one by
+-- 1 after it end the run, and an advance by m never tells an end in no steps, or in m + 1.
 pub record RunBounds (mode limit : ℕ) (start : Runner) : Type 0 where
   pub within : (cs : List Call) → AllContinue cs start → (t : Told) → List·Memᴰ t (tells cs start) → stepsTold (t .reply) ≢ limit + 1
   pub ends : Ends (advance limit ∷ []) start

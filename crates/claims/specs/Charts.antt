@@ -1,4 +1,5 @@
--- Claims about the charts that reachable runners hold, and the round trip of a file through the calls.
+-- Claims about the charts that reachable runners hold, and the round trip of a file through the
+-- calls.
 use Prim.Native.Nat.{ℕ, _^_, _≤_, _<_}
 use mathlib.Core.Path.{_≡_}
 use mathlib.Core.List.{List, [], _∷_, _++_}
@@ -17,7 +18,8 @@ use Rattle.runner.specs.State.{isHeld, isRunning, isEnded, runIn, dropped}
 use Rattle.runner.specs.Outcomes.{chart, wrote, Effect, runs, keeps, begins, drops, replaces, effect, call}
 use Rattle.claims.specs.Lists.{Reached, Accepted, final, Along}
 
--- "An operand that is read is an input below k or a variable 16 to 31", and so is every variable that a box reads when it is run.
+-- "An operand that is read is an input below k or a variable 16 to 31", and so is every variable
+-- that a box reads when it is run.
 abbrev pub AllReadable : (k : ℕ) → List ℕ → Type 0
 AllReadable k [] = Unit {0}
 AllReadable k (v ∷ vs) = (readable k v ≡ true) × AllReadable k vs
@@ -27,7 +29,8 @@ ReadsOnly k (assigns target reads gives next) = AllReadable k reads
 ReadsOnly k (decides reads holds next other) = AllReadable k reads
 ReadsOnly k halts = Unit {0}
 
--- A chart that obeys the rules: its numbers are in range, its boxes are well formed and read only what the rules allow, and its table is 0 past them.
+-- A chart that obeys the rules: its numbers are in range, its boxes are well formed and read only
+-- what the rules allow, and its table is 0 past them.
 pub record Obeys (h : Header) (table : List ℕ) : Type 0 where
   pub long : length table ≡ 2040
   pub header : HeaderInRange h
@@ -39,8 +42,9 @@ pub record Obeys (h : Header) (table : List ℕ) : Type 0 where
 abbrev pub HeldObeys : Type 0
 HeldObeys = (r : Runner) → Reached r → isHeld r ≡ true → Obeys (r .header) (r .table)
 
--- A run under way on a chart is at one of its boxes, in a mode that there is, below a limit that can be set, with 32 variables and marks. So the answers
--- that the definitions give elsewhere are never met.
+-- A run under way on a chart is at one of its boxes, in a mode that there is, below a limit that
+-- can be set, with 32 variables and marks. So the answers that the definitions give elsewhere are
+-- never met.
 pub record RunInRange (h : Header) (q : Run) : Type 0 where
   pub at : q .at < h .boxes
   pub mode : q .mode ≤ 2
@@ -58,7 +62,8 @@ pub record AllSets (P : ℕ → Type 0) (q : Run) : Type 0 where
 abbrev pub InputsOf : Header → ℕ → Type 0
 InputsOf h set = set < 2 ^ h .inputs
 
--- A run under way is on the chart held, its marks are sets of the chart's inputs, and there is no earlier ending.
+-- A run under way is on the chart held, its marks are sets of the chart's inputs, and there is no
+-- earlier ending.
 pub record UnderWay (r : Runner) : Type 0 where
   pub held : isHeld r ≡ true
   pub ranged : RunInRange (r .header) (runIn r)
@@ -72,7 +77,8 @@ RunsInRange = (r : Runner) → Reached r → isRunning r ≡ true → UnderWay r
 abbrev pub EndsInRange : Type 0
 EndsInRange = (r : Runner) → Reached r → isEnded r ≡ true → (isHeld r ≡ true) × (r .state ≤ 4) × InputsOf (r .header) (r .named)
 
--- What is asked of a call so that it keeps the chart: nothing, but where it puts another in its place.
+-- What is asked of a call so that it keeps the chart: nothing, but where it puts another in its
+-- place.
 abbrev pub KeepsChart : Effect → Type 0 → Type 0
 KeepsChart (runs m) Else = Unit {0}
 KeepsChart keeps Else = Unit {0}
@@ -84,7 +90,8 @@ KeepsChart (replaces by) Else = Else
 abbrev pub AllKeepChart : List Call → Runner → Type 0
 AllKeepChart cs r = Along (λ c x. KeepsChart (effect c) (Accepted c x → ⊥)) cs r
 
--- "Writing back a loaded chart reproduces its file", whatever calls but another load or a rewriting stand between, and during a run.
+-- "Writing back a loaded chart reproduces its file", whatever calls but another load or a rewriting
+-- stand between, and during a run.
 abbrev pub LoadedIsWritten : Type 0
 LoadedIsWritten =
     (r : Runner) (file buffer : List ℕ) (cs : List Call)
@@ -94,8 +101,8 @@ LoadedIsWritten =
     → call (writeBack buffer) (final cs (call (load file) r .next)) .told
     ≡ record { reply = wrote (length file); buffer = file ++ drop (length file) buffer }
 
--- "and loading that file reproduces the chart": what any reachable runner writes back, loaded into any other with which it meets a condition.
--- The length of the file is the one told.
+-- "and loading that file reproduces the chart": what any reachable runner writes back, loaded into
+-- any other with which it meets a condition. The length of the file is the one told.
 abbrev pub WrittenLoadsWhere : (Runner → Runner → Type 0) → Type 0
 WrittenLoadsWhere Holds =
     (r r′ : Runner) (buffer : List ℕ) (bytes : ℕ)

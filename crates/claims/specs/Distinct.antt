@@ -1,4 +1,5 @@
--- "a definition gives this paper's number and values for every case of the enum": no two answers of one enum tell the same.
+-- "a definition gives this paper's number and values for every case of the enum": no two answers of
+-- one enum tell the same.
 use mathlib.Core.Path.{_≡_}
 use Rattle.runner.specs.Outcomes.{Reply}
 use Rattle.runner.specs.Replies.{loadReply, verdictReply, advanceReply, answerReply, writtenReply}

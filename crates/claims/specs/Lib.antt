@@ -1,5 +1,6 @@
--- What is claimed of the seven calls: lists of calls, demand 3, the laws of a run, of refusals and of held charts, of the marks as sets, of high-water runs, of the two
--- editions, that the replies are distinct, demand 3 of one file, and the claims at their exact bounds.
+-- What is claimed of the seven calls: lists of calls, demand 3, the laws of a run, of refusals and
+-- of held charts, of the marks as sets, of high-water runs, of the two editions, that the replies
+-- are distinct, demand 3 of one file, and the claims at their exact bounds.
 pub mod Lists
 pub mod Demand3
 pub mod Runs

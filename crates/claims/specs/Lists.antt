@@ -35,7 +35,8 @@ abbrev pub Along : (Call → Runner → Type 0) → List Call → Runner → Typ
 Along P [] r = Unit {0}
 Along P (c ∷ cs) r = P c r × Along P cs (call c r .next)
 
--- What is asked of a call so that it does no more to a run than run its boxes: nothing where it runs boxes or keeps all as it is, and else something.
+-- What is asked of a call so that it does no more to a run than run its boxes: nothing where it
+-- runs boxes or keeps all as it is, and else something.
 abbrev pub OnlyRuns : Effect → Type 0 → Type 0
 OnlyRuns (runs m) Else = Unit {0}
 OnlyRuns keeps Else = Unit {0}
@@ -43,14 +44,16 @@ OnlyRuns (begins start) Else = Else
 OnlyRuns drops Else = Else
 OnlyRuns (replaces by) Else = Else
 
--- "the lists hold only advance, answer, write back and refused calls": advance runs boxes, answer and write back keep all, and another call is refused.
+-- "the lists hold only advance, answer, write back and refused calls": advance runs boxes, answer
+-- and write back keep all, and another call is refused.
 abbrev pub Continues : Call → Runner → Type 0
 Continues c r = OnlyRuns (effect c) (Accepted c r → ⊥)
 
 abbrev pub AllContinue : List Call → Runner → Type 0
 AllContinue cs r = Along Continues cs r
 
--- What holds of every run as calls continue it: of the runner that an accepted begin got, of what the begin was given, and of a list of such calls after it.
+-- What holds of every run as calls continue it: of the runner that an accepted begin got, of what
+-- the begin was given, and of a list of such calls after it.
 abbrev pub Continued : ((r : Runner) (mode : ℕ) (inputs : List ℕ) (allowed limit : ℕ) → List Call → Type 0) → Type 0
 Continued P =
     (r : Runner) (mode : ℕ) (inputs : List ℕ) (allowed limit : ℕ)
@@ -59,8 +62,8 @@ Continued P =
     → AllContinue cs (begun mode inputs allowed limit r)
     → P r mode inputs allowed limit cs
 
--- What holds of every reply after an accepted begin, while calls only continue its run: by the runner that the begin got, its mode, its allowed set and its
--- limit.
+-- What holds of every reply after an accepted begin, while calls only continue its run: by the
+-- runner that the begin got, its mode, its allowed set and its limit.
 abbrev pub AllTold : ((r : Runner) (mode allowed limit : ℕ) → Reply → Type 0) → Type 0
 AllTold P =
     Continued

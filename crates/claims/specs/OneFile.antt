@@ -1,4 +1,5 @@
--- Demand 3 as the callers of one file meet it. It follows by giving demand 3 its values, so that a narrower demand 3 would be noticed here.
+-- Demand 3 as the callers of one file meet it. It follows by giving demand 3 its values, so that a
+-- narrower demand 3 would be noticed here.
 use Prim.Native.Nat.{ℕ}
 use mathlib.Core.Path.{_≡_}
 use mathlib.Core.List.{List}
@@ -14,8 +15,10 @@ use Rattle.claims.specs.Demand3.{AllowedAlike, Guarded}
 abbrev pub afterLoad : List ℕ → List Call → Runner → Runner
 afterLoad file past r = final past (call (load file) r .next)
 
--- "Take two runners that hold one chart, whatever calls made them": both have loaded one file, nothing is asked of what came before it, and of the
--- calls since a condition. Both are begun in one mode that guards, one with limit 0 and the other with the number that it means, and withheld inputs differ.
+-- "Take two runners that hold one chart, whatever calls made them": both have loaded one file,
+-- nothing is asked of what came before it, and of the calls since a condition. Both are begun in
+-- one mode that guards, one with limit 0 and the other with the number that it means, and withheld
+-- inputs differ.
 abbrev pub OneFileWhere : (List ℕ → List Call → Runner → Type 0) → Type 0
 OneFileWhere Holds =
     (r r′ : Runner) (file : List ℕ) (past past′ : List Call)

@@ -27,8 +27,8 @@ RefusalChangesNothing =
     → call c r .told .reply ≡ refused number detail
     → (call c r .told .buffer ≡ lent c) × (call c r .next ≡ r)
 
--- "Advancing by m and then by p does what advancing by m + p does": the runner, and what the second call tells. Of every runner and m that meet a
--- condition.
+-- "Advancing by m and then by p does what advancing by m + p does": the runner, and what the second
+-- call tells. Of every runner and m that meet a condition.
 abbrev pub AdvancesJoinWhere : (Runner → ℕ → Type 0) → Type 0
 AdvancesJoinWhere Holds = (r : Runner) (m p : ℕ) → Holds r m → call (advance p) (call (advance m) r .next) ≡ call (advance (m + p)) r
 
@@ -36,7 +36,8 @@ AdvancesJoinWhere Holds = (r : Runner) (m p : ℕ) → Holds r m → call (advan
 abbrev pub NotEndedAfter : Runner → ℕ → Type 0
 NotEndedAfter r m = isRunning (call (advance m) r .next) ≡ true
 
--- 02, b: "its rules on advancing by m and then by p and on advances that add up to the limit don't speak of this mode", high-water.
+-- 02, b: "its rules on advancing by m and then by p and on advances that add up to the limit don't
+-- speak of this mode", high-water.
 abbrev pub NotHighWater : ℕ → Type 0
 NotHighWater mode = modeOf mode ≢ HighWater
 
@@ -50,21 +51,24 @@ StoresAndGoesOn b target next =
     (edition : ℕ) (mode : Mode) (vars marks : List ℕ) (counter : ℕ)
     → (value : ℕ) × (mark : ℕ) × (act mode (meaning edition b) vars marks counter ≡ Store target value mark next)
 
--- "No operation stops a run": an assignment of any operation, on any operands, stores and goes on, and so does a box of kind 4.
+-- "No operation stops a run": an assignment of any operation, on any operands, stores and goes on,
+-- and so does a box of kind 4.
 abbrev pub NoOperationStops : Type 0
 NoOperationStops =
     ((target op left right next constant : ℕ) → StoresAndGoesOn (Assign target op left right next constant) target next)
     × ((target comparison left right next one other : ℕ) → StoresAndGoesOn (Choose target comparison left right next one other) target next)
 
--- What holds of every run at its start: after each accepted begin, of its mode, the number that its limit means and the runner handed back.
+-- What holds of every run at its start: after each accepted begin, of its mode, the number that its
+-- limit means and the runner handed back.
 abbrev pub AfterBegin : ((mode limit : ℕ) → Runner → Type 0) → Type 0
 AfterBegin P =
     (r : Runner) (mode : ℕ) (inputs : List ℕ) (allowed limit : ℕ)
     → Accepted (begin mode inputs allowed limit) r
     → P mode (effective limit) (begun mode inputs allowed limit r)
 
--- "Each box run counts one, the box that ends the run included": an advance by m from the start that leaves the run under way tells m steps;
--- one that ends it tells s steps where an advance by s ends it so and one by s - 1 does not. In modes that meet a condition.
+-- "Each box run counts one, the box that ends the run included": an advance by m from the start
+-- that leaves the run under way tells m steps; one that ends it tells s steps where an advance by s
+-- ends it so and one by s - 1 does not. In modes that meet a condition.
 abbrev pub CountsBoxesWhere : (ℕ → Type 0) → Type 0
 CountsBoxesWhere Holds =
     AfterBegin
@@ -92,8 +96,10 @@ LimitEnds = LimitEndsWhere NotHighWater
 abbrev pub OneAdvanceEnds : Type 0
 OneAdvanceEnds = AfterBegin (λ mode limit start. (m : ℕ) → limit ≤ m → Ends (advance m ∷ []) start)
 
--- "Ending, value and step count are those of its rules": after an accepted begin in any mode and calls that end the run, an answer tells the ending and the steps
--- of the whole run. Bare and under surveillance all lists end it whose advances reach the limit (`LimitEnds`), in high-water mode all with an accepted advance (`HighWaterEnds`).
+-- "Ending, value and step count are those of its rules": after an accepted begin in any mode and
+-- calls that end the run, an answer tells the ending and the steps of the whole run. Bare and under
+-- surveillance all lists end it whose advances reach the limit (`LimitEnds`), in high-water mode
+-- all with an accepted advance (`HighWaterEnds`).
 abbrev pub TellsWholeRun : Type 0
 TellsWholeRun =
     Continued
@@ -115,8 +121,9 @@ stepsTold (refused number detail) = 0
 abbrev pub WithinLimit : Type 0
 WithinLimit = AllTold (λ r mode allowed limit reply. stepsTold reply ≤ effective limit)
 
--- "When a run ends or is dropped, the variables, their marks and the counter mark become 0": a runner with no run keeps the chart and nothing
--- else, and one with an ended run keeps the chart and the ending.
+-- "When a run ends or is dropped, the variables, their marks and the counter mark become 0": a
+-- runner with no run keeps the chart and nothing else, and one with an ended run keeps the chart
+-- and the ending.
 abbrev pub Cleared : Type 0
 Cleared =
     (r : Runner)

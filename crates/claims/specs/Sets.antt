@@ -1,4 +1,5 @@
--- Claims about the marks as sets of withheld inputs (02, a), about how they are set (02, e), and about the sets that notices name.
+-- Claims about the marks as sets of withheld inputs (02, a), about how they are set (02, e), and
+-- about the sets that notices name.
 use Prim.Native.Nat.{ℕ, _^_, _≤_, _<_}
 use mathlib.Core.Path.{_≡_}
 use mathlib.Core.List.{List, [], _∷_, map}
@@ -22,8 +23,9 @@ unfoldable pub anyMarked : List Bool → Bool
 anyMarked [] = false
 anyMarked (m ∷ marks) = m || anyMarked marks
 
--- "Surveillance: an assignment marks its target if any variable it reads is marked, and otherwise unmarks it." "High-water: an assignment marks its
--- target if the target or any variable read is marked." Bare has no rule, and the mark stays.
+-- "Surveillance: an assignment marks its target if any variable it reads is marked, and otherwise
+-- unmarks it." "High-water: an assignment marks its target if the target or any variable read is
+-- marked." Bare has no rule, and the mark stays.
 abbrev pub targetMarked : Mode → (target : Bool) (read : List Bool) → Bool
 targetMarked Bare target read = target
 targetMarked Surveillance target read = anyMarked read
@@ -41,34 +43,39 @@ counterMarked Bare counter read = counter
 counterMarked Surveillance counter read = counter
 counterMarked HighWater counter read = counter || anyMarked read
 
--- Surveillance: "Halt gives a notice if 31 is marked". High-water: "Halt gives a notice if 31 or the counter is marked".
+-- Surveillance: "Halt gives a notice if 31 is marked". High-water: "Halt gives a notice if 31 or
+-- the counter is marked".
 abbrev pub haltStops : Mode → (counter output : Bool) → Bool
 haltStops Bare counter output = false
 haltStops Surveillance counter output = output
 haltStops HighWater counter output = output || counter
 
--- The rules of the sets, seen through a question that is asked of each set, are 01's rules on marked and unmarked.
+-- The rules of the sets, seen through a question that is asked of each set, are 01's rules on
+-- marked and unmarked.
 pub record SeenAsMarks (sees : ℕ → Bool) : Type 0 where
   pub assigns : (mode : Mode) (target : ℕ) (read : List ℕ) → sees (targetMark mode target (union read)) ≡ targetMarked mode (sees target) (map sees read)
   pub decides : (mode : Mode) (read : List ℕ) → sees (decisionNotice mode (union read)) ≡ decisionStops mode (map sees read)
   pub counts : (mode : Mode) (counter : ℕ) (read : List ℕ) → sees (counterMark mode counter (union read)) ≡ counterMarked mode (sees counter) (map sees read)
   pub halts : (mode : Mode) (counter output : ℕ) → sees (haltNotice mode counter output) ≡ haltStops mode (sees counter) (sees output)
 
--- "empty exactly where 01 has no mark": whether a set is empty. At a begin "each withheld input is marked and nothing else is".
+-- "empty exactly where 01 has no mark": whether a set is empty. At a begin "each withheld input is
+-- marked and nothing else is".
 abbrev pub EmptyWhereUnmarked : Type 0
 EmptyWhereUnmarked =
     ((allowed k v : ℕ) → k ≤ 16 → marked (getD (firstMarks allowed k) v 0) ≡ (ltb v k && not (allows allowed v))) × SeenAsMarks marked
 
--- "the new set is the union of those sets; the counter also keeps what it had": whether input j is in a set. At a begin "A withheld input begins with itself
--- alone".
+-- "the new set is the union of those sets; the counter also keeps what it had": whether input j is
+-- in a set. At a begin "A withheld input begins with itself alone".
 abbrev pub SetsAreUnions : Type 0
 SetsAreUnions =
     (j : ℕ)
     → ((allowed k v : ℕ) → k ≤ 16 → has (getD (firstMarks allowed k) v 0) j ≡ ((ltb v k && not (allows allowed v)) && eqb v j))
     × SeenAsMarks (λ set. has set j)
 
--- 02, e: "for every such number, that it gives the union of the sets read and the kept part of the old set, and nothing else". Bit by bit: input j is in the new set
--- exactly if it is in a set read, or in the old set and in the number; and so by any two numbers, of which the other says what is taken of the sets read.
+-- 02, e: "for every such number, that it gives the union of the sets read and the kept part of the
+-- old set, and nothing else". Bit by bit: input j is in the new set exactly if it is in a set read,
+-- or in the old set and in the number; and so by any two numbers, of which the other says what is
+-- taken of the sets read.
 abbrev pub UnionAndKept : Type 0
 UnionAndKept =
     (before : ℕ) (read : List ℕ) (j : ℕ)
@@ -76,14 +83,16 @@ UnionAndKept =
     ((keep : ℕ) → has (setMark keep before (union read)) j ≡ (isRead || (has before j && has keep j)))
     × ((numbers : Numbers) → has (setBy numbers before (union read)) j ≡ ((isRead && has (numbers .take) j) || (has before j && has (numbers .keep) j)))
 
--- "one piece of arithmetic for both modes": by 0 it is the rule of surveillance, and by 65,535, on an old set of 16 inputs, that of the high-water mark.
+-- "one piece of arithmetic for both modes": by 0 it is the rule of surveillance, and by 65,535, on
+-- an old set of 16 inputs, that of the high-water mark.
 abbrev pub OneArithmetic : Type 0
 OneArithmetic =
     (before : ℕ) (read : List ℕ)
     → (setMark 0 before (union read) ≡ targetMark Surveillance before (union read))
     × (before < 2 ^ 16 → setMark 65535 before (union read) ≡ targetMark HighWater before (union read))
 
--- By the numbers of its mode the arithmetic is the rule of every mode, bare too, on sets of 16 inputs.
+-- By the numbers of its mode the arithmetic is the rule of every mode, bare too, on sets of 16
+-- inputs.
 abbrev pub SetAsRuled : Type 0
 SetAsRuled =
     (mode : Mode) (before : ℕ) (read : List ℕ) → before < 2 ^ 16 → union read < 2 ^ 16 → setBy (numbersOf mode) before (union read) ≡ targetMark mode before (union read)
@@ -113,8 +122,9 @@ unfoldable pub progressAsMarks : Progress → Progress
 progressAsMarks (going q) = going (asMarks q)
 progressAsMarks (over e steps) = over (endingAsMarks e) steps
 
--- So the sets name inputs and do nothing else: a run whose sets are seen as marks goes through the same boxes with the same values to the same kind of
--- ending in the same steps. By `EmptyWhereUnmarked` its rules are 01's.
+-- So the sets name inputs and do nothing else: a run whose sets are seen as marks goes through the
+-- same boxes with the same values to the same kind of ending in the same steps. By
+-- `EmptyWhereUnmarked` its rules are 01's.
 abbrev pub SetsOnlyName : Type 0
 SetsOnlyName = (flow : ℕ → Box) (m : ℕ) (q : Run) → run flow m (going (asMarks q)) ≡ progressAsMarks (run flow m (going q))
 
@@ -122,7 +132,8 @@ SetsOnlyName = (flow : ℕ → Box) (m : ℕ) (q : Run) → run flow m (going (a
 abbrev pub WithheldOnly : (allowed k set : ℕ) → Type 0
 WithheldOnly allowed k set = (j : ℕ) → has set j ≡ true → (j < k) × (allows allowed j ≡ false)
 
--- "Each mark becomes a set of withheld inputs": from an accepted begin on, while calls only continue its run.
+-- "Each mark becomes a set of withheld inputs": from an accepted begin on, while calls only
+-- continue its run.
 abbrev pub MarksWithheld : Type 0
 MarksWithheld =
     Continued
@@ -150,7 +161,8 @@ NoticesName guarded =
 abbrev pub SurveillanceNames : Type 0
 SurveillanceNames = NoticesName 1
 
--- Nothing is named in modes that meet a condition. "All other endings, and high-water notices, carry 0": no mode but surveillance names an input.
+-- Nothing is named in modes that meet a condition. "All other endings, and high-water notices,
+-- carry 0": no mode but surveillance names an input.
 abbrev pub NamesNoneWhere : (ℕ → Type 0) → Type 0
 NamesNoneWhere Holds = AllTold (λ r mode allowed limit reply. Holds mode → namedTold reply ≡ 0)
 

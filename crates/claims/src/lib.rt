@@ -9,7 +9,8 @@ ghost use Rattle.claims.specs.Editions.{OthersAlike, BoxesAlike, Counter
 ghost use Rattle.claims.specs.Distinct.{RepliesDistinct};
 ghost use Rattle.claims.specs.Bounds.{AnswersAtTheLimit, RunsWithinBounds, WrittenIntoExactRoom, HeldWithinBounds, StatesWithinBounds, NamesWithinBounds, KeepsOneInput};
 
-// The claims of this crate. A claim counts where a contract holds it: without this function the theorems could be deleted, and nothing would fail.
+// The claims of this crate. A claim counts where a contract holds it: without this function the
+// theorems could be deleted, and nothing would fail.
 pub fn promised()
     ensures { λ _. ⌜
         Demand3 × OneFile × RefusalChangesNothing × AdvancesJoin × NoOperationStops

@@ -1,5 +1,7 @@
--- What the converter answers at each of its checks, from the facts that lead there; what an accepting answer says; and what the converter does by its answer.
--- untaken-is, tells-untaken, tells-room, tells-header; after-chart, after-refused; chart-accepted, after-accepted, fits; converts, converts-refused. Assumes nothing.
+-- What the converter answers at each of its checks, from the facts that lead there; what an
+-- accepting answer says; and what the converter does by its answer. untaken-is, tells-untaken,
+-- tells-room, tells-header; after-chart, after-refused; chart-accepted, after-accepted, fits;
+-- converts, converts-refused. Assumes nothing.
 use Prim.Native.Nat.{ℕ, _≤_, _<_}
 use mathlib.Core.Path.{_≡_, refl, ap, ap₂, _∙_}
 use mathlib.Core.List.{List}

@@ -1,5 +1,6 @@
--- 02, f: "The converter takes a whole file and a buffer and writes the other edition's file, with the same boxes in the same places, at the front of the buffer. Bytes past
--- it stay untouched; the converter tells the file's length."
+-- 02, f: "The converter takes a whole file and a buffer and writes the other edition's file, with
+-- the same boxes in the same places, at the front of the buffer. Bytes past it stay untouched; the
+-- converter tells the file's length."
 use Prim.Native.Nat.{ℕ}
 use mathlib.Core.List.{List}
 use mathlib.Core.Bool.{Bool, cond, not, _&&_, _||_}
@@ -24,19 +25,23 @@ otherThan edition = cond (eqb edition 2) 1 2
 abbrev pub inOther : Header → Header
 inOther h = record { edition = otherThan (h .edition); inputs = h .inputs; boxes = h .boxes; first = h .first }
 
--- "a box of operation 2, 3 or 11". Byte 2 is the operation of an assignment alone; that of a decision or of a choice is its comparison.
+-- "a box of operation 2, 3 or 11". Byte 2 is the operation of an assignment alone; that of a
+-- decision or of a choice is its comparison.
 abbrev pub isOperation : List ℕ → ℕ → Bool
 isOperation b op = eqb (at b 0) 1 && eqb (at b 2) op
 
--- A box that an edition takes as it stands in the other: neither one of these nor "of a kind that the other edition lacks".
+-- A box that an edition takes as it stands in the other: neither one of these nor "of a kind that
+-- the other edition lacks".
 unfoldable pub takes : (edition : ℕ) → List ℕ → Bool
 takes edition b = hasKind edition (at b 0) && not (isOperation b 2 || isOperation b 3 || isOperation b 11)
 
 abbrev pub takesBox : (edition : ℕ) (table : List ℕ) → ℕ → Bool
 takesBox edition table p = takes edition (boxOf table p)
 
--- What the converter answers of a chart, with room for so many bytes: the header of the file to be written, or a refusal. "It refuses, with 14 and the first such box as
--- detail, a chart with a box of operation 2, 3 or 11 (or of a kind that the other edition lacks), and then, with 12, a buffer shorter than the file."
+-- What the converter answers of a chart, with room for so many bytes: the header of the file to be
+-- written, or a refusal. "It refuses, with 14 and the first such box as detail, a chart with a box
+-- of operation 2, 3 or 11 (or of a kind that the other edition lacks), and then, with 12, a buffer
+-- shorter than the file."
 unfoldable pub checkChart : Header → (table : List ℕ) (room : ℕ) → Checked
 checkChart h table room =
     let other = inOther h in

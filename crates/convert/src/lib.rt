@@ -23,7 +23,8 @@ fn in_other(header: Header) -> Header
     }
 }
 
-// Whether an edition takes a box as it stands in the other: byte 2 is the operation of an assignment alone.
+// Whether an edition takes a box as it stands in the other: byte 2 is the operation of an
+// assignment alone.
 fn takes(edition: u8, b: &[u8]) -> bool
     requires { ⌜ length (now b) ≡ 10 ⌝ }
     ensures { λ r. ⌜ r ≡ takes edition (now (b .entry)) ⌝ }
@@ -51,7 +52,8 @@ fn first_untaken(edition: u8, table: &[u8], boxes: usize) -> usize
     boxes
 }
 
-// What is answered of a chart that load accepts: the header of the file to be written, or a refusal by 14 or 12.
+// What is answered of a chart that load accepts: the header of the file to be written, or a refusal
+// by 14 or 12.
 fn check_chart(header: Header, table: &[u8], room: usize) -> Checked
     requires { ⌜ (length (now table) ≡ 2040) × (header .boxes ≤ 204) ⌝ }
     ensures { λ r. ⌜ r ≡ checkChart header (now (table .entry)) room ⌝ }
@@ -86,7 +88,8 @@ fn check_conversion(file: &[u8], table: &[u8], room: usize) -> Checked
     }
 }
 
-// Puts the other edition's file at the front of a lent buffer, each block in its own part, and tells its length; a refusal leaves the buffer as it was.
+// Puts the other edition's file at the front of a lent buffer, each block in its own part, and
+// tells its length; a refusal leaves the buffer as it was.
 pub fn convert(file: &[u8], buf: &mut [u8]) -> Written
     ensures { λ r. ⌜ conversion r (now (buf .exit)) ≡ convert (now (file .entry)) (now (buf .entry)) ⌝ }
 {

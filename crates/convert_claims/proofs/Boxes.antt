@@ -1,4 +1,5 @@
--- The boxes that an edition takes as they stand in the other: they obey the box rules of both, and do the same in both. Assumes nothing.
+-- The boxes that an edition takes as they stand in the other: they obey the box rules of both, and
+-- do the same in both. Assumes nothing.
 use Prim.Native.Nat.{ℕ, zero, suc, _≤_}
 use mathlib.Core.Path.{_≡_, refl, ap, ap₂, sym, _∙_, fun-ext}
 use mathlib.Core.List.{List, [], _∷_}
@@ -47,7 +48,8 @@ neither false true c e = absurd (false≢true e)
 neither false false true e = absurd (false≢true e)
 neither false false false e = (refl, refl, refl)
 
--- An assignment of another operation does the same in both editions, and so does a box of another kind.
+-- An assignment of another operation does the same in both editions, and so does a box of another
+-- kind.
 assigned-alike : (target op left right next constant : ℕ) → (op ≡ 2 → ⊥) → (op ≡ 3 → ⊥) → (op ≡ 11 → ⊥)
     → meaning 2 (Assign target op left right next constant) ≡ meaning 1 (Assign target op left right next constant)
 unfolding meaning
@@ -108,7 +110,8 @@ pub taken-back : (edition other k n : ℕ) (b : List ℕ) → wellFormed edition
 unfolding takes
 taken-back edition other k n b formed taken = rw (kind-of edition k n b formed) (and-right (hasKind other (at b 0)) _ taken)
 
--- Of each kind there is a box that breaks no rule: 31 is constant 0, 16 equal 16, halt, and 31 is 16 either way, of a chart of one box.
+-- Of each kind there is a box that breaks no rule: 31 is constant 0, 16 equal 16, halt, and 31 is
+-- 16 either way, of a chart of one box.
 kind-has : (edition first : ℕ) → isEdition edition ≡ true → hasKind edition first ≡ true
     → (k : ℕ) × (n : ℕ) × (b : List ℕ) × (at b 0 ≡ first) × (wellFormed edition k n b ≡ true)
 unfolding wellFormed assignmentRule decisionRule haltRule choiceRule operandRule allZero

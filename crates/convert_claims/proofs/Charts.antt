@@ -1,5 +1,7 @@
--- What is told of a chart and of its converted one. Their flows are one, since a box that is taken does the same in both editions and a place past the last is a halt in both; so two
--- runners that differ in the edition alone tell the same at every call but a write back and a rewriting, and differ in it alone afterwards, or in nothing after a load. Assumes nothing.
+-- What is told of a chart and of its converted one. Their flows are one, since a box that is taken
+-- does the same in both editions and a place past the last is a halt in both; so two runners that
+-- differ in the edition alone tell the same at every call but a write back and a rewriting, and
+-- differ in it alone afterwards, or in nothing after a load. Assumes nothing.
 use Prim.Native.Nat.{ℕ, _*_, _<_}
 use mathlib.Core.Path.{_≡_, refl, ap, ap₂, subst, sym, _∙_, fun-ext}
 use mathlib.Core.List.{List, [], _∷_}
@@ -79,7 +81,8 @@ recast edition r =
     (record { header = record { edition = edition; inputs = r .header .inputs; boxes = r .header .boxes; first = r .header .first }; table = r .table })
     (runIn r) (r .state) (r .took) (r .value) (r .named)
 
--- Two runners that differ in nothing, or in the edition alone where that changes nothing of what the boxes do.
+-- Two runners that differ in nothing, or in the edition alone where that changes nothing of what
+-- the boxes do.
 data SameButEdition : Runner → Runner → Type 0 where
   one : {r : Runner} → SameButEdition r r
   two : {r : Runner} (edition : ℕ) → flow edition (r .table) ≡ flowIn r → SameButEdition r (recast edition r)

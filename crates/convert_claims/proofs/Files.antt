@@ -1,5 +1,6 @@
--- The converted file. A file converts where load accepts it and the other edition takes all its boxes, and then to the file of its chart in the other edition; that chart obeys
--- the rules, so load accepts its file, and the edition that it came from takes its boxes. Assumes nothing.
+-- The converted file. A file converts where load accepts it and the other edition takes all its
+-- boxes, and then to the file of its chart in the other edition; that chart obeys the rules, so
+-- load accepts its file, and the edition that it came from takes its boxes. Assumes nothing.
 use Prim.Native.Nat.{ℕ, _≤_, _<_}
 use mathlib.Core.Path.{_≡_, refl, ap, sym, _∙_}
 use mathlib.Core.List.{List, _++_}

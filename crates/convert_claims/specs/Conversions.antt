@@ -21,7 +21,8 @@ use Rattle.runner.specs.Whole.{whole}
 use Rattle.runner.specs.Outcomes.{call}
 use Rattle.claims.specs.Lists.{Accepted, tells, Along}
 
--- A file converts to another: given some buffer, the converter tells the other's length and leaves it at the buffer's front.
+-- A file converts to another: given some buffer, the converter tells the other's length and leaves
+-- it at the buffer's front.
 pub record ConvertsTo (f g : List ℕ) : Type 0 where
   pub buffer : List ℕ
   pub told : convert f buffer .told ≡ Length (length g)
@@ -40,8 +41,9 @@ pub record OtherEdition (f g : List ℕ) : Type 0 where
 abbrev pub ConvertsToOther : Type 0
 ConvertsToOther = (f g : List ℕ) → ConvertsTo f g → OtherEdition f g
 
--- "writes the other edition's file .. at the front of the buffer. Bytes past it stay untouched; the converter tells the file's length", whatever the buffer holds; "and then,
--- with 12, a buffer shorter than the file".
+-- "writes the other edition's file .. at the front of the buffer. Bytes past it stay untouched; the
+-- converter tells the file's length", whatever the buffer holds; "and then, with 12, a buffer
+-- shorter than the file".
 abbrev pub ConvertsIntoAny : Type 0
 ConvertsIntoAny =
     (f g buffer : List ℕ)
@@ -53,7 +55,8 @@ ConvertsIntoAny =
 abbrev pub ConvertsBack : Type 0
 ConvertsBack = (f g : List ℕ) → ConvertsTo f g → ConvertsTo g f
 
--- Whole runs of the charts of two files end alike, whatever the numbers, where the files are related so.
+-- Whole runs of the charts of two files end alike, whatever the numbers, where the files are
+-- related so.
 abbrev pub EndsAlikeWhere : ((f g : List ℕ) → Type 0) → Type 0
 EndsAlikeWhere Related =
     (f g : List ℕ)
@@ -65,8 +68,9 @@ EndsAlikeWhere Related =
 abbrev pub EndsAlike : Type 0
 EndsAlike = EndsAlikeWhere ConvertsTo
 
--- What is asked of a call so that it tells nothing of the edition: that it writes no chart back, and that a rewriting comes during a run, where 22 refuses it in either edition; else
--- 15 tells edition 1. A load puts one chart into both runners.
+-- What is asked of a call so that it tells nothing of the edition: that it writes no chart back,
+-- and that a rewriting comes during a run, where 22 refuses it in either edition; else 15 tells
+-- edition 1. A load puts one chart into both runners.
 abbrev pub TellsNoEdition : Call → Runner → Type 0
 TellsNoEdition (load file) r = Unit {0}
 TellsNoEdition (begin mode inputs allowed limit) r = Unit {0}
@@ -76,8 +80,9 @@ TellsNoEdition abandon r = Unit {0}
 TellsNoEdition (writeBack buffer) r = Accepted (writeBack buffer) r → ⊥
 TellsNoEdition rewrite r = isRunning r ≡ true
 
--- The same through the calls, for lists whose calls meet a condition. Each file is loaded into a runner that has no run under way, whatever else it holds, and the same calls follow.
--- Both tell the same, the loads included.
+-- The same through the calls, for lists whose calls meet a condition. Each file is loaded into a
+-- runner that has no run under way, whatever else it holds, and the same calls follow. Both tell
+-- the same, the loads included.
 abbrev pub TellsAlikeWhere : (Call → Runner → Type 0) → Type 0
 TellsAlikeWhere Holds =
     (f g : List ℕ)
@@ -92,7 +97,8 @@ TellsAlikeWhere Holds =
 abbrev pub TellsAlike : Type 0
 TellsAlike = TellsAlikeWhere TellsNoEdition
 
--- A box that 14 speaks of, in a chart of this header: "a box of operation 2, 3 or 11 (or of a kind that the other edition lacks)". Only an assignment has an operation.
+-- A box that 14 speaks of, in a chart of this header: "a box of operation 2, 3 or 11 (or of a kind
+-- that the other edition lacks)". Only an assignment has an operation.
 pub data Untaken (h : Header) (b : List ℕ) : Type 0 where
   operation : at b 0 ≡ 1 → (at b 2 ≡ 2) ⊎ (at b 2 ≡ 3) ⊎ (at b 2 ≡ 11) → Untaken h b
   kind : ((h .edition ≡ 1) × (hasKind 2 (at b 0) ≡ false)) ⊎ ((h .edition ≡ 2) × (hasKind 1 (at b 0) ≡ false)) → Untaken h b
@@ -103,8 +109,8 @@ pub record FirstUntaken (f : List ℕ) (p : ℕ) : Type 0 where
   pub here : Untaken (headerOf f) (boxOf (tableOf f) p)
   pub none : (q : ℕ) → q < p → Untaken (headerOf f) (boxOf (tableOf f) q) → ⊥
 
--- A file that load accepts is refused by 14 exactly where it has such a box, whatever the buffer, and the detail is the first; no other file is, and a file that has none
--- converts.
+-- A file that load accepts is refused by 14 exactly where it has such a box, whatever the buffer,
+-- and the detail is the first; no other file is, and a file that has none converts.
 pub record Refuses (f : List ℕ) : Type 0 where
   pub only : (buffer : List ℕ) (p : ℕ) → convert f buffer .told ≡ Refused (refusal 14 p) → (checkFile f ≡ checked.Accepted (headerOf f)) × FirstUntaken f p
   pub where-first : checkFile f ≡ checked.Accepted (headerOf f) → (buffer : List ℕ) (p : ℕ) → FirstUntaken f p → convert f buffer .told ≡ Refused (refusal 14 p)

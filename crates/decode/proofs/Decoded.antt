@@ -1,5 +1,7 @@
--- What boxFrom gives at byte n of a table, which the code has as i: it decodes the ten bytes from there on (`read`), by the kind that stands there. Of the 204 places boxAt decodes the place's ten bytes (`box-here`), and
--- past them it is a halt (`box-past`). By which halves the box of a number is found (`Finds`): by five times the number, or the lesser of it and 204. Assumes nothing.
+-- What boxFrom gives at byte n of a table, which the code has as i: it decodes the ten bytes from
+-- there on (`read`), by the kind that stands there. Of the 204 places boxAt decodes the place's ten
+-- bytes (`box-here`), and past them it is a halt (`box-past`). By which halves the box of a number
+-- is found (`Finds`): by five times the number, or the lesser of it and 204. Assumes nothing.
 use Prim.Native.Nat.{ℕ, _+_, _*_, _≤_, _<_, min}
 use mathlib.Core.Path.{_≡_, refl, ap, sym, _∙_}
 use mathlib.Core.List.{List, [], _∷_}

@@ -39,15 +39,16 @@ fn word(a: u8, b: u8, c: u8, d: u8) -> u32
     (a as u32) + 256 * (b as u32) + 65536 * (c as u32) + 16777216 * (d as u32)
 }
 
-// Half of where box p begins. A run takes it along beside p: a byte is read at twice it in one instruction, where ten times p takes one more, and every
-// box waits for it.
+// Half of where box p begins. A run takes it along beside p: a byte is read at twice it in one
+// instruction, where ten times p takes one more, and every box waits for it.
 pub fn half_of(p: u8) -> usize
     ensures { λ r. ⌜ r ≡ 5 * p ⌝ }
 {
     5 * (p as usize)
 }
 
-// The same of the 204 places, by which a run begins: if it began by `half_of`, as it goes on, the compiler would take p along and not its half.
+// The same of the 204 places, by which a run begins: if it began by `half_of`, as it goes on, the
+// compiler would take p along and not its half.
 pub fn first_half(p: u8) -> usize
     ensures { λ r. ⌜ r ≡ 5 * min p 204 ⌝ }
 {
@@ -57,7 +58,8 @@ pub fn first_half(p: u8) -> usize
     half_of(p)
 }
 
-// The box that starts at twice `half`; a halt where the table has no ten bytes there. A kind that no box has reads as a halt.
+// The box that starts at twice `half`; a halt where the table has no ten bytes there. A kind that
+// no box has reads as a halt.
 pub fn box_at(table: &[u8; 2040], half: usize) -> FlowBox
     ensures { λ r. ⌜ r ≡ boxFrom (now (table .entry)) (2 * half) ⌝ }
 {

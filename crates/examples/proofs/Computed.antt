@@ -1,4 +1,5 @@
--- The tables hold by computation, but for two rows: the one bits of a large number, counted in halves, and a variable minus itself. Assumes nothing.
+-- The tables hold by computation, but for two rows: the one bits of a large number, counted in
+-- halves, and a variable minus itself. Assumes nothing.
 use Prim.Native.Nat.{ℕ, _+_, _*_, _-_, _%_, _^_, _<_}
 use mathlib.Core.Path.{_≡_, refl, ap, _∙_}
 use mathlib.Core.List.{List, [], _∷_, map}

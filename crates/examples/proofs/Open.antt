@@ -1,4 +1,5 @@
--- The definitions that a load, a conversion, a run and a rewriting go through, by groups: a proof that opens the name of a group opens all that it names.
+-- The definitions that a load, a conversion, a run and a rewriting go through, by groups: a proof
+-- that opens the name of a group opens all that it names.
 use lib.Count.{trailingZeros}
 use Rattle.boxes.specs.Bytes.{allZero}
 use Rattle.boxes.specs.Box.{operandRule, assignmentRule, decisionRule, haltRule, choiceRule, wellFormed}

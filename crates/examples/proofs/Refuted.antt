@@ -1,5 +1,5 @@
--- Each refutation is a run of a chart: what the claim would say of it is that two replies, endings or buffers are the same, and they compute to different ones.
--- Assumes nothing.
+-- Each refutation is a run of a chart: what the claim would say of it is that two replies, endings
+-- or buffers are the same, and they compute to different ones. Assumes nothing.
 use Prim.Native.Nat.{ℕ}
 use mathlib.Core.Path.{_≡_, refl, ap}
 use mathlib.Core.List.{List, [], _∷_, _++_, List·Memᴰ·head, List·Memᴰ·tail}
@@ -138,8 +138,8 @@ no-load-during-a-run claim =
 halting : List ℕ
 halting = block (front 1 0 1 0) 51 3 ++ block halt 3 0
 
--- Chart C is loaded over chart E. Before it, a begin with one input is accepted and so a load refused; after it, the begin is refused and the load
--- of the chart that halts is not.
+-- Chart C is loaded over chart E. Before it, a begin with one input is accepted and so a load
+-- refused; after it, the begin is refused and the load of the chart that halts is not.
 pub another-load-is-told : AnotherLoadIsTold
 unfolding runs-open first halting
 another-load-is-told claim =

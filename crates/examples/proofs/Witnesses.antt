@@ -1,5 +1,5 @@
--- The instances of demand 3: both runners have loaded one file, so they hold one chart; the rest is computation, as are the instances of a conversion and of rewritings. Assumes
--- nothing.
+-- The instances of demand 3: both runners have loaded one file, so they hold one chart; the rest is
+-- computation, as are the instances of a conversion and of rewritings. Assumes nothing.
 use Prim.Native.Nat.{ℕ, zero, suc}
 use mathlib.Core.Path.{_≡_, refl, ap, sym, _∙_}
 use mathlib.Core.List.{List, [], _∷_, _++_, List·Memᴰ·head, List·Memᴰ·tail}

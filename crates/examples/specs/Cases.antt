@@ -20,11 +20,13 @@ use Rattle.runner.specs.State.{newRunner}
 use Rattle.runner.specs.Outcomes.{Reply, done, chart, ended, ending, wrote, Told}
 use Rattle.claims.specs.Lists.{tells}
 
--- A file and the answer of load's input checks; a file that is loaded and written back to itself, or rewritten between and written back to another; a
--- file and a buffer, what the converter tells and the buffer after it; a chart's file, what begin
+-- A file and the answer of load's input checks; a file that is loaded and written back to itself,
+-- or rewritten between and written back to another; a file and a buffer, what the converter tells
+-- and the buffer after it; a chart's file, what begin
 -- is given, and the ending with its steps, of the chart or of the rewritten one; an
--- operation of an edition, its operands and its result; what a block's check adds, the block, and its check; or two numbers, whose bits are the inputs to
--- keep and to take, the old set, the sets read, and the new set.
+-- operation of an edition, its operands and its result; what a block's check adds, the block, and
+-- its check; or two numbers, whose bits are the inputs to keep and to take, the old set, the sets
+-- read, and the new set.
 pub data Case : Type 0 where
   answers : (file : List ℕ) → Checked → Case
   returns : (file : List ℕ) → Case
@@ -43,8 +45,10 @@ pub data Given : Type 0 where
   told : List Told → Given
   number : ℕ → Given
 
--- What the definitions give: what the checks answer; what a new runner tells for load and write back into as many bytes, all 0; what the converter does; what a new runner tells for load, begin,
--- advance to the limit and answer, or with a rewriting after the load; the operation's result; the block's check; the new set.
+-- What the definitions give: what the checks answer; what a new runner tells for load and write
+-- back into as many bytes, all 0; what the converter does; what a new runner tells for load, begin,
+-- advance to the limit and answer, or with a rewriting after the load; the operation's result; the
+-- block's check; the new set.
 unfoldable pub gives : Case → Given
 gives (answers file so) = checked (checkFile file)
 gives (returns file) = told (tells (load file ∷ writeBack (replicate (length file) 0) ∷ []) newRunner)
@@ -72,7 +76,8 @@ surveillance = 1
 abbrev pub highWater : ℕ
 highWater = 2
 
--- The steps that an advance is to tell with "ended". 02, b: "Advance in this mode tells only "ended" with 0 steps", high-water.
+-- The steps that an advance is to tell with "ended". 02, b: "Advance in this mode tells only
+-- "ended" with 0 steps", high-water.
 abbrev stepsAtTheEnd : (mode steps : ℕ) → ℕ
 stepsAtTheEnd mode steps = cond (eqb mode highWater) 0 steps
 

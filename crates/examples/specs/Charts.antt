@@ -1,5 +1,6 @@
--- Charts A to E of document 01, charts whose notices name inputs (02, a), and charts of both editions (02, c and d), as files. The two bytes of each check are
--- written out, not computed by the definitions.
+-- Charts A to E of document 01, charts whose notices name inputs (02, a), and charts of both
+-- editions (02, c and d), as files. The two bytes of each check are written out, not computed by
+-- the definitions.
 use Prim.Native.Nat.{ℕ, zero, suc, _-_}
 use mathlib.Core.List.{List, [], _∷_, _++_}
 use lib.ListN.{length, replicate}
@@ -34,7 +35,8 @@ halts (suc n) = halt ++ halts n
 unfoldable pub chartA : List ℕ
 chartA = block (front 1 2 3 0) 77 3 ++ block (assign 31 1 0 0 1 0 ++ assign 31 1 1 0 2 0 ++ halt) 65 2
 
--- "B, k 1: box 0 decides 0 equal 16, true 1, false 2; box 1 sets 31 to 1, next 3; box 2 sets 17 to 5, next 1; box 3 halts."
+-- "B, k 1: box 0 decides 0 equal 16, true 1, false 2; box 1 sets 31 to 1, next 3; box 2 sets 17 to
+-- 5, next 1; box 3 halts."
 unfoldable pub chartB : List ℕ
 chartB = block (front 1 1 4 0) 78 3 ++ block (decide 0 0 16 1 2 ++ assign 31 0 0 0 3 1 ++ assign 17 0 0 0 1 5 ++ halt) 175 4
 
@@ -77,11 +79,13 @@ chartTwice = block (front 1 2 2 0) 70 3 ++ block (decide 0 1 1 1 1 ++ halt) 57 0
 unfoldable pub chartSum : List ℕ
 chartSum = block (front 1 16 2 0) 154 3 ++ block (assign 31 2 0 15 1 0 ++ halt) 183 0
 
--- k 2: 31 is an operation of variable 0 and another operand, in an edition. The high byte of the first check is 3.
+-- k 2: 31 is an operation of variable 0 and another operand, in an edition. The high byte of the
+-- first check is 3.
 abbrev pub operating : (edition op right low low′ high′ : ℕ) → List ℕ
 operating edition op right low low′ high′ = block (front edition 2 2 0) low 3 ++ block (assign 31 op 0 right 1 0 ++ halt) low′ high′
 
--- Variable 0 plus variable 1, minus it, and operation 11, which reads variable 1 in edition 2 alone.
+-- Variable 0 plus variable 1, minus it, and operation 11, which reads variable 1 in edition 2
+-- alone.
 unfoldable pub sumOne : List ℕ
 sumOne = operating 1 2 1 70 113 0
 
@@ -100,7 +104,8 @@ zerosOne = operating 1 11 0 70 135 0
 unfoldable pub zerosTwo : List ℕ
 zerosTwo = operating 2 11 1 75 139 2
 
--- Edition 2, 204 boxes in 5 blocks: the first is operation 11 of variables 0 and 1, the last adds them, and the others halt.
+-- Edition 2, 204 boxes in 5 blocks: the first is operation 11 of variables 0 and 1, the last adds
+-- them, and the others halt.
 unfoldable pub fiveBlocks : List ℕ
 fiveBlocks =
     block (front 2 2 204 0) 209 8

@@ -1,5 +1,5 @@
--- The checks of both editions (02, d), in one table: files with their own checks, with the other edition's, with wrong letters or another edition, and with
--- their blocks out of order.
+-- The checks of both editions (02, d), in one table: files with their own checks, with the other
+-- edition's, with wrong letters or another edition, and with their blocks out of order.
 use Prim.Native.Nat.{ℕ, min}
 use mathlib.Core.Path.{_≡_}
 use mathlib.Core.List.{List, [], _∷_, _++_}
@@ -9,8 +9,9 @@ use Rattle.examples.specs.Charts.{block, front, assign, halts, boxesETwo
 use Rattle.examples.specs.Cases.{Case, answers, returns, checks, Table}
 use Rattle.examples.specs.Files.{accepted, refused}
 
--- 102 boxes: block 0 of each edition; the block of the first boxes, one that sets 31 to 5 and 50 that halt; and the block of the others, which halt. The sums of the
--- box blocks are 38,504 and 38,403; in edition 2 block 1 adds 511 and block 2 adds 1,022.
+-- 102 boxes: block 0 of each edition; the block of the first boxes, one that sets 31 to 5 and 50
+-- that halt; and the block of the others, which halt. The sums of the box blocks are 38,504 and
+-- 38,403; in edition 2 block 1 adds 511 and block 2 adds 1,022.
 abbrev headOne : List ℕ
 headOne = block (front 1 1 102 0) 252 5
 
@@ -35,7 +36,8 @@ largeSum = assign 26 0 0 0 1 40 ++ halts 49 ++ (1 ∷ 31 ∷ 0 ∷ 0 ∷ 0 ∷ 1
 
 unfoldable pub checkCases : List Case
 checkCases =
-    -- edition 2; with blocks 1 and 2 exchanged; with edition 1's checks in both, and in block 2 alone
+    -- edition 2; with blocks 1 and 2 exchanged; with edition 1's checks in both, and in block 2
+    -- alone
     answers threeTwo (accepted 2 1 102 0)
     ∷ answers (headTwo ++ otherBoxes 1 154 ++ firstBoxes 103 152) (refused 2 1)
     ∷ answers (headTwo ++ firstBoxes 104 150 ++ otherBoxes 3 150) (refused 2 1)
@@ -44,14 +46,16 @@ checkCases =
     ∷ answers threeOne (accepted 1 1 102 0)
     ∷ answers (headOne ++ otherBoxes 3 150 ++ firstBoxes 104 150) (accepted 1 1 102 0)
     ∷ answers (headOne ++ firstBoxes 103 152 ++ otherBoxes 1 154) (refused 2 1)
-    -- refusal 2 comes before 3, so byte 4 alone says what is added: a wrong letter; a block 0 that is 0 but for byte 4; edition 3, which adds nothing
+    -- refusal 2 comes before 3, so byte 4 alone says what is added: a wrong letter; a block 0 that
+    -- is 0 but for byte 4; edition 3, which adds nothing
     ∷ answers (block (set (front 2 1 102 0) 0 71) 2 6 ++ firstBoxes 103 152 ++ otherBoxes 1 154) (refused 3 0)
     ∷ answers (block (set (front 2 1 102 0) 0 71) 2 6 ++ firstBoxes 104 150 ++ otherBoxes 3 150) (refused 2 1)
     ∷ answers (block (0 ∷ 0 ∷ 0 ∷ 0 ∷ 2 ∷ []) 10 0 ++ block [] 255 1) (refused 3 0)
     ∷ answers (block (0 ∷ 0 ∷ 0 ∷ 0 ∷ 2 ∷ []) 10 0 ++ block [] 0 0) (refused 2 1)
     ∷ answers (block (front 3 1 102 0) 6 6 ++ firstBoxes 103 152 ++ otherBoxes 1 154) (refused 2 1)
     ∷ answers (block (front 3 1 102 0) 6 6 ++ firstBoxes 104 150 ++ otherBoxes 3 150) (refused 3 0)
-    -- five blocks: with 2 and 3 exchanged, which differ in their checks alone; with block 2 three times
+    -- five blocks: with 2 and 3 exchanged, which differ in their checks alone; with block 2 three
+    -- times
     ∷ answers (exchanged 2 3 fiveBlocks) (refused 2 2)
     ∷ answers (rearranged (min 2) fiveBlocks) (refused 2 3)
     -- 65,025 and 511, of which the modulus is taken; byte 509, the last of a constant, is 22

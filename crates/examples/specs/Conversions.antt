@@ -1,4 +1,5 @@
--- The converter (02, f), in one table: charts of both editions, buffers too short, as long as the file and longer, and refusals by 14, by 12 and by load's checks 2 and 6.
+-- The converter (02, f), in one table: charts of both editions, buffers too short, as long as the
+-- file and longer, and refusals by 14, by 12 and by load's checks 2 and 6.
 use Prim.Native.Nat.{ℕ}
 use mathlib.Core.List.{List, [], _∷_, _++_}
 use lib.ListN.{replicate, set}
@@ -12,7 +13,8 @@ use Rattle.examples.specs.Checks.{threeOne, threeTwo}
 unfoldable pub chartATwo : List ℕ
 chartATwo = block (front 2 2 3 0) 82 3 ++ block (assign 31 1 0 0 1 0 ++ assign 31 1 1 0 2 0 ++ halt) 64 4
 
--- A sum in the last box, which no path reaches; and a difference and a sum in boxes 52 and 53 of 54.
+-- A sum in the last box, which no path reaches; and a difference and a sum in boxes 52 and 53 of
+-- 54.
 abbrev lastSum : List ℕ
 lastSum = block (front 1 1 2 0) 64 3 ++ block (halt ++ assign 31 2 0 0 0 0) 156 1
 
@@ -57,7 +59,8 @@ conversionCases =
     ∷ converts chartATwo (replicate 1024 9 ++ (5 ∷ 6 ∷ 7 ∷ [])) (Length 1024) (chartA ++ (5 ∷ 6 ∷ 7 ∷ []))
     -- 12: a byte short
     ∷ refused chartA (replicate 1023 9) 12 0
-    -- 14: operation 3, before 12; operation 2; operation 11 in both editions; the last box, which no path reaches; the first of two
+    -- 14: operation 3, before 12; operation 2; operation 11 in both editions; the last box, which
+    -- no path reaches; the first of two
     ∷ refused chartD (9 ∷ 9 ∷ []) 14 0
     ∷ refused sumTwo (replicate 1024 9) 14 0
     ∷ refused zerosOne (replicate 1024 9) 14 0

@@ -1,5 +1,5 @@
--- The two editions (02, c), in one table: what their operations give, alone and through the calls, what their files are answered, and that a file of edition 2 is
--- written back to itself.
+-- The two editions (02, c), in one table: what their operations give, alone and through the calls,
+-- what their files are answered, and that a file of edition 2 is written back to itself.
 use mathlib.Core.List.{List, [], _∷_, _++_}
 use lib.ListN.{set}
 use Rattle.machine.specs.Run.{valued, notice}
@@ -19,7 +19,8 @@ editionCases =
     ∷ runs differenceOne bare (3 ∷ 5 ∷ []) 0 0 (valued 4294967294) 2
     ∷ runs differenceTwo bare (3 ∷ 5 ∷ []) 0 0 (valued 0) 2
     ∷ runs differenceTwo bare (5 ∷ 3 ∷ []) 0 0 (valued 2) 2
-    -- operation 11: edition 1 reads left alone, edition 2 gives the lesser of its trailing zeros and right
+    -- operation 11: edition 1 reads left alone, edition 2 gives the lesser of its trailing zeros
+    -- and right
     ∷ runs zerosOne bare (8 ∷ 2 ∷ []) 0 0 (valued 3) 2
     ∷ runs zerosTwo bare (8 ∷ 2 ∷ []) 0 0 (valued 2) 2
     ∷ runs zerosTwo bare (8 ∷ 5 ∷ []) 0 0 (valued 3) 2
@@ -39,7 +40,8 @@ editionCases =
     -- the other operations are alike: a product wraps in both
     ∷ operates 1 4 65536 65536 0
     ∷ operates 2 4 65536 65536 0
-    -- the right operand of operation 11: variable 16, and inputs at k and above it, in edition 2; in edition 1 any but 0 is 6
+    -- the right operand of operation 11: variable 16, and inputs at k and above it, in edition 2;
+    -- in edition 1 any but 0 is 6
     ∷ answers (operating 2 11 16 75 214 2) (accepted 2 2 2 0)
     ∷ answers (operating 2 11 2 75 144 2) (refused 6 0)
     ∷ answers (operating 2 11 15 75 209 2) (refused 6 0)

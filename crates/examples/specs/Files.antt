@@ -1,4 +1,5 @@
--- What load's input checks answer: charts A to E, and files that break one rule each or several. Files of edition 2 are in `Editions.antt` and `Checks.antt`.
+-- What load's input checks answer: charts A to E, and files that break one rule each or several.
+-- Files of edition 2 are in `Editions.antt` and `Checks.antt`.
 use Prim.Native.Nat.{ℕ}
 use mathlib.Core.List.{List, [], _∷_, _++_}
 use lib.ListN.{take, replicate, set}
@@ -50,7 +51,8 @@ fileCases =
     -- 5: 52 boxes in 1,024 bytes; 51 boxes in 1,536 bytes
     ∷ answers (withHead (front 1 1 52 0) 158 4) (refused 5 0)
     ∷ answers (withHead (front 1 1 51 0) 151 4 ++ replicate 512 0) (refused 5 0)
-    -- 6: target 15; a right operand that is not read; a constant that is not used; a place past the last box
+    -- 6: target 15; a right operand that is not read; a constant that is not used; a place past the
+    -- last box
     ∷ answers (withBoxes (assign 15 0 0 0 1 5 ++ halt) 105 0) (refused 6 0)
     ∷ answers (withBoxes (assign 31 1 0 16 1 0 ++ halt) 185 0) (refused 6 0)
     ∷ answers (withBoxes (assign 31 1 0 0 1 1 ++ halt) 112 0) (refused 6 0)

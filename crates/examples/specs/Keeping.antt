@@ -1,5 +1,5 @@
--- How a mark is set (02, e), in one table: the inputs to keep of the old set and to take of the sets read, the old set, the sets read, and the new set, all of 16
--- inputs.
+-- How a mark is set (02, e), in one table: the inputs to keep of the old set and to take of the
+-- sets read, the old set, the sets read, and the new set, all of 16 inputs.
 use Prim.Native.Nat.{ℕ}
 use mathlib.Core.List.{List, [], _∷_}
 use Rattle.marks.specs.Marks.{numbersOf}

@@ -1,4 +1,5 @@
--- What does not hold: claims with one of the things that they ask for exchanged. A run of one of the charts refutes each.
+-- What does not hold: claims with one of the things that they ask for exchanged. A run of one of
+-- the charts refutes each.
 use Prim.Native.Nat.{ℕ, _+_}
 use mathlib.Core.Path.{_≡_}
 use mathlib.Core.List.{List}
@@ -24,7 +25,8 @@ use Rattle.claims.specs.HighWater.{CountsValuesOnlyIn}
 abbrev pub BareIsNotSecret : Type 0
 BareIsNotSecret = Secrecy 0 0 SameLimit → ⊥
 
--- "both begins being of one mode": chart E with limit 2 tells "ended" with 2 steps under surveillance and with 0 under high-water.
+-- "both begins being of one mode": chart E with limit 2 tells "ended" with 2 steps under
+-- surveillance and with 0 under high-water.
 abbrev pub AnotherModeIsTold : Type 0
 AnotherModeIsTold = Secrecy 1 2 SameLimit → ⊥
 
@@ -35,7 +37,8 @@ OneMore limit limit′ = effective limit′ ≡ effective limit + 1
 abbrev pub OneLess : ℕ → ℕ → Type 0
 OneLess limit limit′ = effective limit ≡ effective limit′ + 1
 
--- Chart C with limits 1 and 2: after one box the one run has ended. In high-water mode the other is not advanced by one box.
+-- Chart C with limits 1 and 2: after one box the one run has ended. In high-water mode the other is
+-- not advanced by one box.
 abbrev pub AnotherLimitIsTold : Type 0
 AnotherLimitIsTold = (Secrecy 1 1 OneMore → ⊥) × (Secrecy 2 2 OneMore → ⊥)
 
@@ -43,16 +46,19 @@ AnotherLimitIsTold = (Secrecy 1 1 OneMore → ⊥) × (Secrecy 2 2 OneMore → �
 abbrev pub BareAnswersMore : Type 0
 BareAnswersMore = AnswersAs 0 SameLimit → ⊥
 
--- Chart E with limit 2 under high-water, which tells value 5, and 1 under surveillance, which is spent.
+-- Chart E with limit 2 under high-water, which tells value 5, and 1 under surveillance, which is
+-- spent.
 abbrev pub SmallerLimitAnswersLess : Type 0
 SmallerLimitAnswersLess = AnswersAs 2 OneLess → ⊥
 
--- "23: no run is under way (advance, abandon)": a second advance past the end is refused, where the one advance tells "ended".
+-- "23: no run is under way (advance, abandon)": a second advance past the end is refused, where the
+-- one advance tells "ended".
 abbrev pub AdvancesPartAtTheEnd : Type 0
 AdvancesPartAtTheEnd = AdvancesJoinWhere (λ r m. NotHighWater (r .mode) × (isRunning r ≡ true)) → ⊥
 
--- 02, b, exempts high-water from three laws: joining advances, advances that add up to the limit, and the count that an advance tells. Chart E with limit 2 in this mode:
--- two advances by 1 are refused, and one by 2 tells "ended" with 0 steps.
+-- 02, b, exempts high-water from three laws: joining advances, advances that add up to the limit,
+-- and the count that an advance tells. Chart E with limit 2 in this mode: two advances by 1 are
+-- refused, and one by 2 tells "ended" with 0 steps.
 abbrev pub HighWaterAdvancesPart : Type 0
 HighWaterAdvancesPart = AdvancesJoinWhere NotEndedAfter → ⊥
 
@@ -70,7 +76,8 @@ SurveillanceTellsCounts = CountsValuesOnlyIn 1 → ⊥
 abbrev pub NoLoadDuringARun : Type 0
 NoLoadDuringARun = WrittenLoadsWhere (λ r r′. isRunning r ≡ false) → ⊥
 
--- Another load between: that the runner which has yet to load the file would refuse it is not enough.
+-- Another load between: that the runner which has yet to load the file would refuse it is not
+-- enough.
 abbrev pub AnotherLoadIsTold : Type 0
 AnotherLoadIsTold = OneFileWhere (λ file past r. AllKeepChart past r) → ⊥
 
@@ -78,7 +85,8 @@ AnotherLoadIsTold = OneFileWhere (λ file past r. AllKeepChart past r) → ⊥
 abbrev pub WrittenBackIsTold : Type 0
 WrittenBackIsTold = TellsAlikeWhere (λ c r. Unit {0}) → ⊥
 
--- That two files are of the two editions, with the same boxes, is not enough: a sum wraps in the one and not in the other, and such a chart is refused by 14.
+-- That two files are of the two editions, with the same boxes, is not enough: a sum wraps in the
+-- one and not in the other, and such a chart is refused by 14.
 abbrev pub EditionsEndApart : Type 0
 EditionsEndApart = EndsAlikeWhere OtherEdition → ⊥
 
@@ -86,12 +94,14 @@ EditionsEndApart = EndsAlikeWhere OtherEdition → ⊥
 abbrev pub RewritingIsTold : Type 0
 RewritingIsTold = TellsAlikeWhere (λ c r. (c ≡ rewrite) × (Accepted c r → ⊥)) → ⊥
 
--- A rewriting between: that no other load is accepted is not enough. A chart of B's shape with copies ends in 4 steps, and rewritten in 3.
+-- A rewriting between: that no other load is accepted is not enough. A chart of B's shape with
+-- copies ends in 4 steps, and rewritten in 3.
 abbrev pub RewritingBetweenIsTold : Type 0
 RewritingBetweenIsTold =
     OneFileWhere (λ file past r. Along (λ c x. (other : List ℕ) → c ≡ load other → Accepted c x → ⊥) past (call (load file) r .next)) → ⊥
 
--- 02, g, speaks of "the bare old chart": in the other modes a copy that is not made is read by the box put in, so that a value becomes a notice.
+-- 02, g, speaks of "the bare old chart": in the other modes a copy that is not made is read by the
+-- box put in, so that a value becomes a notice.
 abbrev pub GuardedMayLose : Type 0
 GuardedMayLose = (FewerStepsBy 1 (λ old new. replacedAt old) → ⊥) × (FewerStepsBy 2 (λ old new. replacedAt old) → ⊥)
 

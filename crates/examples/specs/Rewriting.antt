@@ -1,5 +1,6 @@
--- Kind 4 and the rewriter (02, g), in one table: what files with kind 4 are answered, what their boxes read and give, which decisions are replaced and which stay, and what runs come to
--- before and after.
+-- Kind 4 and the rewriter (02, g), in one table: what files with kind 4 are answered, what their
+-- boxes read and give, which decisions are replaced and which stay, and what runs come to before
+-- and after.
 use Prim.Native.Nat.{ℕ}
 use mathlib.Core.List.{List, [], _∷_, _++_}
 use Rattle.format.specs.File.{refusal}
@@ -9,7 +10,8 @@ use Rattle.examples.specs.Charts.{block, front, assign, decide, choose, 
 use Rattle.examples.specs.Cases.{Case, answers, returns, rewrites, converts, runs, runsRewritten, bare, surveillance, highWater, Table}
 use Rattle.examples.specs.Files.{accepted, refused}
 
--- k 4: one box, in edition 2, and a halt. The check of block 0 has high byte 3, that of block 1 has 2.
+-- k 4: one box, in edition 2, and a halt. The check of block 0 has high byte 3, that of block 1 has
+-- 2.
 abbrev withHalt : (box : List ℕ) (low : ℕ) → List ℕ
 withHalt box low = block (front 2 4 2 0) 87 3 ++ block (box ++ halt) low 2
 
@@ -21,7 +23,8 @@ chartChoice = withHalt (choose 31 0 0 1 1 2 3) 147
 abbrev oneInput : (n : ℕ) (boxes : List ℕ) (low low′ high′ : ℕ) → List ℕ
 oneInput n boxes low low′ high′ = block (front 2 1 n 0) low 3 ++ block boxes low′ high′
 
--- Chart B's shape with copies: box 0 decides 0 equal 16, true 1, false 2, which copy 18 and 19 to 17; then 31 is 1. Box 0 is replaced.
+-- Chart B's shape with copies: box 0 decides 0 equal 16, true 1, false 2, which copy 18 and 19 to
+-- 17; then 31 is 1. Box 0 is replaced.
 abbrev afterFork : List ℕ
 afterFork = assign 17 1 18 0 3 0 ++ assign 17 1 19 0 3 0 ++ assign 31 0 0 0 4 1 ++ halt
 
@@ -38,7 +41,8 @@ between decision one other low high = oneInput 4 (decision ++ one ++ other ++ ha
 abbrev copy18 : List ℕ
 copy18 = assign 17 1 18 0 3 0
 
--- A chain: box 0 goes to box 1, which is itself a decision, with comparison 1, and is replaced. Box 0 stays.
+-- A chain: box 0 goes to box 1, which is itself a decision, with comparison 1, and is replaced. Box
+-- 0 stays.
 abbrev copies : List ℕ
 copies = assign 17 1 18 0 5 0 ++ assign 17 1 19 0 5 0 ++ assign 17 1 20 0 5 0 ++ halt
 
@@ -53,7 +57,8 @@ abbrev toChoice : List ℕ
 toChoice =
     block (front 2 0 4 0) 77 3 ++ block (decide 1 16 16 1 2 ++ choose 31 1 16 16 3 17 17 ++ assign 31 1 16 0 3 0 ++ halt) 169 13
 
--- A loop: box 1 is replaced, and run once a turn; box 5 goes back to it while 16 is not greater than the input.
+-- A loop: box 1 is replaced, and run once a turn; box 5 goes back to it while 16 is not greater
+-- than the input.
 abbrev turn : List ℕ
 turn = assign 31 1 16 0 4 0 ++ assign 31 1 18 0 4 0 ++ assign 16 2 16 18 5 0 ++ decide 2 16 0 1 6 ++ halt
 
@@ -76,7 +81,8 @@ inputs = 5 ∷ 5 ∷ 7 ∷ 9 ∷ []
 
 unfoldable pub rewritingCases : List Case
 rewritingCases =
-    -- kind 4 loads in edition 2 and is 6 in edition 1; an operand at k or above, target 15, comparison 3, next n and byte 9 are 6
+    -- kind 4 loads in edition 2 and is 6 in edition 1; an operand at k or above, target 15,
+    -- comparison 3, next n and byte 9 are 6
     answers chartChoice (accepted 2 4 2 0)
     ∷ answers (block (front 1 4 2 0) 82 3 ++ block (choose 31 0 0 1 1 2 3 ++ halt) 148 0) (refused 6 0)
     ∷ answers (withHalt (choose 31 0 4 1 1 2 3) 163) (refused 6 0)

@@ -1,5 +1,6 @@
--- The cases that document 01 marks (P), in one table: runs from files, through the calls; results of operations; and E's checks. Then the inputs that
--- notices name (02, a), and what high-water runs tell (02, b).
+-- The cases that document 01 marks (P), in one table: runs from files, through the calls; results
+-- of operations; and E's checks. Then the inputs that notices name (02, a), and what high-water
+-- runs tell (02, b).
 use Prim.Native.Nat.{ℕ, _^_, _<_}
 use mathlib.Core.List.{List, [], _∷_}
 use lib.ListN.{replicate}
@@ -7,15 +8,17 @@ use Rattle.machine.specs.Run.{valued, notice, spent}
 use Rattle.examples.specs.Charts.{chartA, chartB, chartC, chartD, headE, boxesE, chartE, chartPair, chartChain, chartTwice, chartSum}
 use Rattle.examples.specs.Cases.{Case, runs, operates, checks, bare, surveillance, highWater, Table}
 
--- The cases, where x is the input of D and of E, of which 01 says nothing. The sets that notices carry are 02's, a; and by 02, b, "01's charts .. change
--- accordingly": a high-water notice tells 0 steps.
+-- The cases, where x is the input of D and of E, of which 01 says nothing. The sets that notices
+-- carry are 02's, a; and by 02, b, "01's charts .. change accordingly": a high-water notice tells 0
+-- steps.
 unfoldable pub markedCases : ℕ → List Case
 markedCases x =
-    -- "A .. Inputs 7 and 9, allowed 2. (P) Surveillance: value 9, 3 steps. (P) High-water: notice, 3."
+    -- "A .. Inputs 7 and 9, allowed 2. (P) Surveillance: value 9, 3 steps. (P) High-water: notice,
+    -- 3."
     runs chartA surveillance (7 ∷ 9 ∷ []) 2 0 (valued 9) 3
     ∷ runs chartA highWater (7 ∷ 9 ∷ []) 2 0 (notice 0) 0
-    -- "B .. Allowed 0. (P) Surveillance, inputs 0 and 4: notice, 1. (P) High-water: input 0 notice 3, input 4 notice 4. (P) Bare, input 4:
-    -- limit 3 spent 3, limit 4 value 1."
+    -- "B .. Allowed 0. (P) Surveillance, inputs 0 and 4: notice, 1. (P) High-water: input 0 notice
+    -- 3, input 4 notice 4. (P) Bare, input 4: limit 3 spent 3, limit 4 value 1."
     ∷ runs chartB surveillance (0 ∷ []) 0 0 (notice 1) 1
     ∷ runs chartB surveillance (4 ∷ []) 0 0 (notice 1) 1
     ∷ runs chartB highWater (0 ∷ []) 0 0 (notice 0) 0
@@ -29,7 +32,8 @@ markedCases x =
     ∷ runs chartE surveillance (x ∷ []) 0 0 (valued 5) 2
     ∷ checks 0 headE 832
     ∷ checks 0 boxesE 137
-    -- "(P) 4,294,967,295 plus 1 is 0; 0 minus 1 is 4,294,967,295; 7 by 0 leaves quotient 0, remainder 7; one bits of 4,294,967,295: 32."
+    -- "(P) 4,294,967,295 plus 1 is 0; 0 minus 1 is 4,294,967,295; 7 by 0 leaves quotient 0,
+    -- remainder 7; one bits of 4,294,967,295: 32."
     ∷ operates 1 2 4294967295 1 0
     ∷ operates 1 3 0 1 4294967295
     ∷ operates 1 5 7 0 0
@@ -46,7 +50,8 @@ unfoldable pub namingCases : List Case
 namingCases =
     -- "for chart D, the line `1 0 0 7` gives `notice steps 2 inputs 1`"
     runs chartD surveillance (7 ∷ []) 0 0 (notice 1) 2
-    -- inputs 0 and 2, both withheld; input 0 allowed; high-water, which halts with the counter's mark
+    -- inputs 0 and 2, both withheld; input 0 allowed; high-water, which halts with the counter's
+    -- mark
     ∷ runs chartPair surveillance (1 ∷ 2 ∷ 3 ∷ []) 0 0 (notice 5) 1
     ∷ runs chartPair surveillance (1 ∷ 2 ∷ 3 ∷ []) 1 0 (notice 4) 1
     ∷ runs chartPair highWater (1 ∷ 2 ∷ 3 ∷ []) 0 0 (notice 0) 0

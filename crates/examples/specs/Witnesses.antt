@@ -1,5 +1,6 @@
--- Instances of demand 3 that meet all that it supposes, and what they are told: what it supposes can be met, and it speaks of something. What advances of a high-water
--- run are told. And instances of what a chart and its converted one tell, and of a chart and its rewritten one.
+-- Instances of demand 3 that meet all that it supposes, and what they are told: what it supposes
+-- can be met, and it speaks of something. What advances of a high-water run are told. And instances
+-- of what a chart and its converted one tell, and of a chart and its rewritten one.
 use Prim.Native.Nat.{ℕ, _-_}
 use mathlib.Core.Path.{_≡_}
 use mathlib.Core.List.{List, [], _∷_}
@@ -24,7 +25,8 @@ use Rattle.examples.specs.Cases.{replied}
 use Rattle.examples.specs.Conversions.{chartATwo}
 use Rattle.examples.specs.Rewriting.{chartChoice, chartFork, chartTurns}
 
--- "their pasts may differ": a runner that has only loaded a file, and one that has run it bare since, to the ending.
+-- "their pasts may differ": a runner that has only loaded a file, and one that has run it bare
+-- since, to the ending.
 abbrev pub justLoaded : List ℕ → Runner
 justLoaded file = afterLoad file [] newRunner
 
@@ -58,15 +60,16 @@ SecrecyIsMet =
     × Replies toTheEnd (begun 1 (7 ∷ 9 ∷ []) 2 0 (justLoaded chartA))
     (ended 3 ∷ ending (valued 9) 3 ∷ [])
 
--- And with inputs 0 and 1 withheld, so that a notice is told: chart A names input 1, which 31 copies last, and not the other.
+-- And with inputs 0 and 1 withheld, so that a notice is told: chart A names input 1, which 31
+-- copies last, and not the other.
 abbrev pub NoticeIsTold : Type 0
 NoticeIsTold =
     BegunAlike 1 chartA (1 ∷ 2 ∷ []) (7 ∷ 9 ∷ []) (8 ∷ 3 ∷ []) 0
     × Replies toTheEnd (begun 1 (7 ∷ 9 ∷ []) 0 0 (justLoaded chartA))
     (ended 3 ∷ ending (notice 2) 3 ∷ [])
 
--- And on a chart of edition 2: operation 11 of an allowed input and of a withheld one, 2 on the one side and 5 on the other, of which a bare run would give 2 and 3. The
--- notice names input 1.
+-- And on a chart of edition 2: operation 11 of an allowed input and of a withheld one, 2 on the one
+-- side and 5 on the other, of which a bare run would give 2 and 3. The notice names input 1.
 abbrev pub SecondEditionIsMet : Type 0
 SecondEditionIsMet =
     BegunAlike 1 zerosTwo (1 ∷ 2 ∷ []) (8 ∷ 2 ∷ []) (8 ∷ 5 ∷ []) 1
@@ -77,8 +80,8 @@ SecondEditionIsMet =
     × Replies toTheEnd (begun 0 (8 ∷ 5 ∷ []) 1 0 (justLoaded zerosTwo))
     (ended 2 ∷ ending (valued 3) 2 ∷ [])
 
--- And on a chart with a box of kind 4, among calls of the rewriter: input 0 is withheld, 5 on the one side and 6 on the other, by which a bare run would copy 7 or 9. The notice names
--- input 0.
+-- And on a chart with a box of kind 4, among calls of the rewriter: input 0 is withheld, 5 on the
+-- one side and 6 on the other, by which a bare run would copy 7 or 9. The notice names input 0.
 abbrev pub ChoiceIsMet : Type 0
 ChoiceIsMet =
     BegunAlike 1 chartChoice (1 ∷ 2 ∷ 3 ∷ 4 ∷ []) (5 ∷ 5 ∷ 7 ∷ 9 ∷ []) (6 ∷ 5 ∷ 7 ∷ 9 ∷ []) 14
@@ -90,8 +93,9 @@ ChoiceIsMet =
     × Replies toTheEnd (begun 0 (6 ∷ 5 ∷ 7 ∷ 9 ∷ []) 14 0 (justLoaded chartChoice))
     (ended 2 ∷ ending (valued 9) 2 ∷ [])
 
--- And in high-water mode: chart B with its input withheld, 0 on the one side and 4 on the other. Inside, the runs come to their notices in 3 boxes and in 4; what is
--- told is the same on both sides, a refused advance included, and has no count.
+-- And in high-water mode: chart B with its input withheld, 0 on the one side and 4 on the other.
+-- Inside, the runs come to their notices in 3 boxes and in 4; what is told is the same on both
+-- sides, a refused advance included, and has no count.
 abbrev pub CountsAreHidden : Type 0
 CountsAreHidden =
     let start = begun 2 (0 ∷ []) 0 0 (justLoaded chartB) in
@@ -121,8 +125,9 @@ AdvancesAreWhole =
     × EndsInOneAdvance 0
     × Replies (advance 1 ∷ abandon ∷ advance 2 ∷ []) (begun 2 (7 ∷ []) 0 2 (justLoaded chartE)) (refused 13 0 ∷ done ∷ refused 23 0 ∷ [])
 
--- The second half: chart E with its input withheld and limit 2. High-water tells value 5 in 2 steps, where an advance by less was refused; under surveillance two
--- advances add up to the limit, in a list of calls of every kind, "advance, answer, write back and refused calls".
+-- The second half: chart E with its input withheld and limit 2. High-water tells value 5 in 2
+-- steps, where an advance by less was refused; under surveillance two advances add up to the limit,
+-- in a list of calls of every kind, "advance, answer, write back and refused calls".
 abbrev pub refusedFirst : List Call
 refusedFirst = advance 1 ∷ advance 2 ∷ answer ∷ []
 
@@ -139,8 +144,10 @@ AnsweringIsMet =
     × Replies everyKind (begun 1 (7 ∷ []) 0 2 (loadedAndRun chartE (3 ∷ [])))
     (running 1 ∷ refused 22 0 ∷ refused 22 0 ∷ refused 22 0 ∷ refused 12 0 ∷ refused 24 0 ∷ ended 2 ∷ refused 23 0 ∷ ending (valued 5) 2 ∷ [])
 
--- 02, f: "the converted chart must end as the original does". Chart A and its converted one, loaded into a new runner and into one whose run of another chart has ended, and then
--- calls of every kind: a rewriting and a write back that are refused, two advances, and a load of chart E, which both hold afterwards.
+-- 02, f: "the converted chart must end as the original does". Chart A and its converted one, loaded
+-- into a new runner and into one whose run of another chart has ended, and then calls of every
+-- kind: a rewriting and a write back that are refused, two advances, and a load of chart E, which
+-- both hold afterwards.
 abbrev pub callsOfBoth : List Call
 callsOfBoth =
     begin 1 (7 ∷ 9 ∷ []) 2 0 ∷ rewrite ∷ writeBack [] ∷ advance 1 ∷ advance (limitForNone - 1)
@@ -158,7 +165,8 @@ ConversionIsMet =
     × Replies (load chartA ∷ callsOfBoth) newRunner (chart 2 3 ∷ repliesOfBoth)
     × Replies (load chartATwo ∷ callsOfBoth) (loadedAndRun chartB (4 ∷ [])) (chart 2 3 ∷ repliesOfBoth)
 
--- 02, g: two charts that are rewritten, and a bare run of each, in which a box put in is run once, and twice. The limit of the first is the steps that its old chart takes.
+-- 02, g: two charts that are rewritten, and a bare run of each, in which a box put in is run once,
+-- and twice. The limit of the first is the steps that its old chart takes.
 abbrev pub Saves : (file inputs : List ℕ) (limit v steps saved : ℕ) → Type 0
 Saves file inputs limit v steps saved =
     let old = justLoaded file in
@@ -172,7 +180,8 @@ Saves file inputs limit v steps saved =
 abbrev pub RewritingIsMet : Type 0
 RewritingIsMet = Saves chartFork (7 ∷ []) 4 1 4 1 × Saves chartTurns (1 ∷ []) limitForNone 1 10 2
 
--- And the calls: no chart, a run under way, edition 1; done, and the ending is forgotten; a rewriting that is refused keeps it.
+-- And the calls: no chart, a run under way, edition 1; done, and the ending is forgotten; a
+-- rewriting that is refused keeps it.
 abbrev pub RewritingInOrder : Type 0
 RewritingInOrder =
     Replies

@@ -13,7 +13,8 @@ ghost use Rattle.examples.specs.Refuted.{RewritingIsTold, RewritingBetwe
 ghost use Rattle.examples.specs.Witnesses.{SecrecyIsMet, NoticeIsTold, SecondEditionIsMet, ChoiceIsMet, CountsAreHidden, AdvancesAreWhole, AnsweringIsMet};
 ghost use Rattle.examples.specs.Witnesses.{ConversionIsMet, RewritingIsMet, RewritingInOrder};
 
-// The claims of this crate. A claim counts where a contract holds it: without this function the theorems could be deleted, and nothing would fail.
+// The claims of this crate. A claim counts where a contract holds it: without this function the
+// theorems could be deleted, and nothing would fail.
 pub fn promised()
     ensures { λ _. ⌜
         FileExamples × MarkedCases × NamingCases × HiddenCases × EditionCases × CheckCases × ConversionCases × RewritingCases × KeepingCases × BlocksExchanged

@@ -1,5 +1,5 @@
--- What it says of a file that its checks pass: one record of facts, which load, show a box, the round trip and the converter cite. And that no refusal has a number above 6.
--- Assumes nothing.
+-- What it says of a file that its checks pass: one record of facts, which load, show a box, the
+-- round trip and the converter cite. And that no refusal has a number above 6. Assumes nothing.
 use Prim.Native.Nat.{ℕ, _*_, _-_, _≤_, _<_}
 use mathlib.Core.Path.{_≡_, refl, ap}
 use mathlib.Core.List.{List, [], _∷_}

@@ -1,4 +1,5 @@
--- Laws of the file's parts: the length that check 1 asks, and the places within it. Assumes nothing.
+-- Laws of the file's parts: the length that check 1 asks, and the places within it. Assumes
+-- nothing.
 use Prim.Native.Nat.{ℕ, _+_, _*_, _-_, _/_, _≤_}
 use mathlib.Core.Path.{_≡_, ap, _∙_}
 use mathlib.Core.List.{List}

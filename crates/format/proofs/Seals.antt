@@ -1,5 +1,6 @@
--- Laws of sealed blocks: what the two bytes of the check are, that sealing seals, and that a block is sealed for one place of an edition 2 file alone.
--- sealed-bytes; seal-seals; sealed-once. Assumes nothing.
+-- Laws of sealed blocks: what the two bytes of the check are, that sealing seals, and that a block
+-- is sealed for one place of an edition 2 file alone. sealed-bytes; seal-seals; sealed-once.
+-- Assumes nothing.
 use Prim.Native.Nat.{ℕ, _+_, _*_, _/_, _%_, _≤_, _<_}
 use mathlib.Core.Path.{_≡_, refl, ap, sym, _∙_}
 use mathlib.Core.List.{List, [], _∷_, _++_}

@@ -1,5 +1,6 @@
--- Laws of firstFailing: how a loop that counts up looks for the number, what it says where no number fails and where one does, and which number it is.
--- search-start, search-more, search-stop, search-end; all-hold, none-fails; first-is, first-says. Assumes nothing.
+-- Laws of firstFailing: how a loop that counts up looks for the number, what it says where no
+-- number fails and where one does, and which number it is. search-start, search-more, search-stop,
+-- search-end; all-hold, none-fails; first-is, first-says. Assumes nothing.
 use Prim.Native.Nat.{ℕ, zero, suc, _+_, _-_, _≤_, _<_}
 use mathlib.Core.Path.{_≡_, refl, ap, sym, _∙_}
 use mathlib.Core.Bool.{Bool, true, false, cond}

@@ -18,7 +18,8 @@ unfolding weighted
 sum-here l i h =
     ap (weighted i) (drop-cons l i 0 h) ∙ ap (λ (k : ℕ). (i + 1) * getD l i 0 + weighted (i + 1) (drop k l)) (sym (add-one i))
 
--- The sum s of what is added and the terms before i, modulo 65,536, and the terms from i on: one term more.
+-- The sum s of what is added and the terms before i, modulo 65,536, and the terms from i on: one
+-- term more.
 module _ (added : ℕ) (block : List ℕ) (i s : ℕ) (e : (s + weighted i (drop i (take 510 block))) % 65536 ≡ checksum added block) where
   pub sum-more : (w b next : ℕ) → i < min 510 (length block) → w ≡ i + 1 → b ≡ getD block i 0 → next ≡ (s + w * b % 65536) % 2 ^ 16
       → (next + weighted (i + 1) (drop (i + 1) (take 510 block))) % 65536 ≡ checksum added block

@@ -1,5 +1,7 @@
--- "In each block, bytes 510 and 511 (low byte first) hold the check: the sum over bytes 0 to 509 of (position + 1) times byte,
--- modulo 65,536." 02, d: "When byte 4 of block 0 is 2, the check of block b adds 511 × b before the modulus is taken."
+-- "In each block, bytes 510 and 511 (low byte first) hold the check: the sum over bytes 0 to 509 of
+-- (position + 1) times byte,
+-- modulo 65,536." 02, d: "When byte 4 of block 0 is 2, the check of block b adds 511 × b before the
+-- modulus is taken."
 use Prim.Native.Nat.{ℕ, _+_, _*_, _/_, _%_}
 use mathlib.Core.List.{List, [], _∷_, _++_}
 use mathlib.Core.Bool.{Bool, cond, _&&_}

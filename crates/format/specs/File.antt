@@ -1,4 +1,5 @@
--- The chart file as load's input checks 1 to 6 see it. A rule is true of a file that keeps it; the refusal that it stands for is quoted.
+-- The chart file as load's input checks 1 to 6 see it. A rule is true of a file that keeps it; the
+-- refusal that it stands for is quoted.
 use Prim.Native.Nat.{ℕ, _+_, _*_, _-_, _/_, _%_}
 use mathlib.Core.List.{List}
 use mathlib.Core.Bool.{Bool, cond, not, _&&_, _||_}
@@ -20,11 +21,13 @@ blocksOf f = length f / 512
 abbrev pub blockOf : List ℕ → ℕ → List ℕ
 blockOf f j = part f (512 * j) 512
 
--- Block 0: "byte 4 the edition"; "byte 5 the number of inputs k"; "byte 6 the number of boxes n"; "byte 7 the first box run".
+-- Block 0: "byte 4 the edition"; "byte 5 the number of inputs k"; "byte 6 the number of boxes n";
+-- "byte 7 the first box run".
 abbrev pub headerOf : List ℕ → Header
 headerOf f = record { edition = at f 4; inputs = at f 5; boxes = at f 6; first = at f 7 }
 
--- "Each later block holds 51 boxes of ten bytes, box 0 first": where place p starts, and its ten bytes.
+-- "Each later block holds 51 boxes of ten bytes, box 0 first": where place p starts, and its ten
+-- bytes.
 abbrev pub placeStart : ℕ → ℕ
 placeStart p = 512 * (1 + p / 51) + 10 * (p % 51)
 
@@ -39,8 +42,8 @@ blocksFor n = 1 + (n + 50) / 51
 abbrev pub lengthRule : ℕ → Bool
 lengthRule bytes = eqb bytes 1024 || eqb bytes 1536 || eqb bytes 2048 || eqb bytes 2560
 
--- "2: a block's check differs." 02, d: "It refuses a block whose changed check differs by 2, in the old place", so byte 4 of block 0 counts
--- whatever the letters are.
+-- "2: a block's check differs." 02, d: "It refuses a block whose changed check differs by 2, in the
+-- old place", so byte 4 of block 0 counts whatever the letters are.
 unfoldable pub checkRule : List ℕ → Header → ℕ → Bool
 checkRule f h b = isSealed (addend (h .edition) b) (blockOf f b)
 
@@ -52,7 +55,8 @@ isEdition edition = eqb edition 1 || eqb edition 2
 abbrev pub lettersRule : List ℕ → Bool
 lettersRule f = eqb (at f 0) 70 && eqb (at f 1) 76 && eqb (at f 2) 79 && eqb (at f 3) 87 && isEdition (headerOf f .edition)
 
--- "the number of inputs k, 0 to 16"; "the number of boxes n, 1 to 204"; "the first box run, below n".
+-- "the number of inputs k, 0 to 16"; "the number of boxes n, 1 to 204"; "the first box run, below
+-- n".
 abbrev pub inRange : Header → Bool
 inRange h = leb (h .inputs) 16 && leb 1 (h .boxes) && leb (h .boxes) 204 && ltb (h .first) (h .boxes)
 
@@ -72,7 +76,8 @@ placeRule f h p = cond (ltb p (h .boxes)) (boxRule h (placeOf f p)) (allZero (pl
 abbrev pub refusal : ℕ → ℕ → Refusal
 refusal number detail = record { number = number; detail = detail }
 
--- Load's input checks, "1 to 6 in order": "2: .. Detail: the first such block." "5: the length doesn't fit n." "6: ..
+-- Load's input checks, "1 to 6 in order": "2: .. Detail: the first such block." "5: the length
+-- doesn't fit n." "6: ..
 -- Detail: the first such place."
 unfoldable pub checkFile : List ℕ → Checked
 checkFile f =

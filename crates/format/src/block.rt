@@ -23,8 +23,8 @@ pub fn addend(edition: u8, b: u8) -> u32
     0
 }
 
-// The check of a block: what it adds and the sum over its bytes 0 to 509 of (position + 1) times byte, modulo 65,536. A shorter slice is
-// summed to its end.
+// The check of a block: what it adds and the sum over its bytes 0 to 509 of (position + 1) times
+// byte, modulo 65,536. A shorter slice is summed to its end.
 pub fn checksum(added: u32, block: &[u8]) -> u32
     ensures { λ r. ⌜ r ≡ checksum added (now (block .entry)) ⌝ }
 {

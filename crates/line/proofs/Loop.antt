@@ -1,4 +1,5 @@
--- What the loop over a line keeps, at a space and at another byte, and what it answers where it ends. Assumes nothing.
+-- What the loop over a line keeps, at a space and at another byte, and what it answers where it
+-- ends. Assumes nothing.
 use Prim.Native.Nat.{ℕ, suc, _+_, _-_, _≤_, _<_}
 use mathlib.Core.Path.{_≡_, refl, ap, sym, _∙_}
 use mathlib.Core.List.{List, [], _∷_, _++_}
@@ -13,7 +14,8 @@ use Rattle.line.specs.declared.parsing.Numbers.{Numbers}
 use Rattle.line.proofs.Scan.{onward, taken}
 use Rattle.line.proofs.Parsed.{parsed}
 
--- The numbers stand at the front of 19 places, zeros after them, and what is left of the line leads where the whole line does.
+-- The numbers stand at the front of 19 places, zeros after them, and what is left of the line leads
+-- where the whole line does.
 pub record Holds (line n : List ℕ) (c v d i : ℕ) : Type 0 where
   pub short : length line ≤ 255
   pub within : i ≤ length line

@@ -1,5 +1,5 @@
--- What the loop makes of a whole line is `parse` of it: `taken-is` goes by the bytes left, for any numbers so far and any part of a number at hand.
--- Assumes nothing.
+-- What the loop makes of a whole line is `parse` of it: `taken-is` goes by the bytes left, for any
+-- numbers so far and any part of a number at hand. Assumes nothing.
 use Prim.Native.Nat.{ℕ, zero, suc, _+_, _*_, _-_, _≤_, _<_}
 use mathlib.Core.Path.{_≡_, refl, ap, sym, _∙_}
 use mathlib.Core.List.{List, [], _∷_, _++_, map}

@@ -1,5 +1,6 @@
--- The loop over a line, as a function of the bytes that are left: `taken` goes on from the numbers so far, and the value and the digits of the
--- one at hand. How it goes at a space, at another byte and at the end. Assumes nothing.
+-- The loop over a line, as a function of the bytes that are left: `taken` goes on from the numbers
+-- so far, and the value and the digits of the one at hand. How it goes at a space, at another byte
+-- and at the end. Assumes nothing.
 use Prim.Native.Nat.{ℕ, suc, _+_, _*_, _-_, _≤_, _<_}
 use mathlib.Core.Path.{_≡_}
 use mathlib.Core.List.{List, [], _∷_, _++_}

@@ -1,5 +1,6 @@
--- "lines from standard input: mode, allowed set, limit, inputs. That is 3 to 19 decimal numbers up to 4,294,967,295, without extra leading
--- zeros, one space between, at most 255 bytes, then a newline": a line without its newline, as its numbers.
+-- "lines from standard input: mode, allowed set, limit, inputs. That is 3 to 19 decimal numbers up
+-- to 4,294,967,295, without extra leading zeros, one space between, at most 255 bytes, then a
+-- newline": a line without its newline, as its numbers.
 use Prim.Native.Nat.{ℕ, _+_, _*_, _-_}
 use mathlib.Core.List.{List, [], _∷_, _++_, map}
 use mathlib.Core.Bool.{Bool, true, false, cond, not, _&&_}
@@ -7,7 +8,8 @@ use lib.Dec.{eqb, ltb, leb}
 use lib.ListN.{length, replicate}
 use Rattle.line.specs.declared.parsing.Numbers.{Numbers}
 
--- "one space between": the part of a line before its first space, the parts after it, and all of them.
+-- "one space between": the part of a line before its first space, the parts after it, and all of
+-- them.
 unfoldable pub firstPart : List ℕ → List ℕ
 firstPart [] = []
 firstPart (b ∷ bytes) = cond (eqb b 32) [] (b ∷ firstPart bytes)

@@ -27,7 +27,8 @@ fn is_digit(b: u8) -> bool
     (b'0' <= b) & (b <= b'9')
 }
 
-// The number that one more byte makes of a number of so many digits; 4,294,967,296 where the byte may not follow.
+// The number that one more byte makes of a number of so many digits; 4,294,967,296 where the byte
+// may not follow.
 fn onward(value: u64, digits: usize, b: u8) -> u64
     requires { ⌜ value ≤ 4294967295 ⌝ }
     ensures { λ r. ⌜ r ≡ cond (isDigit b && not (not (eqb digits 0) && eqb value 0) && leb (10 * value + (b - 48)) 4294967295) (10 * value + (b - 48)) 4294967296 ⌝ }

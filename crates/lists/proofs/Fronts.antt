@@ -1,5 +1,6 @@
--- What stands at the front of a list: one list after another (then-front), a number after a list (end-front), and the first numbers of a list in a part
--- that is as long (fits-part). Assumes nothing.
+-- What stands at the front of a list: one list after another (then-front), a number after a list
+-- (end-front), and the first numbers of a list in a part that is as long (fits-part). Assumes
+-- nothing.
 use Prim.Native.Nat.{ℕ, suc, _+_, _-_, _≤_, _<_}
 use mathlib.Core.Path.{_≡_, ap, sym, _∙_}
 use mathlib.Core.List.{List, [], _∷_, _++_}

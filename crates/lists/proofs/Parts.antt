@@ -1,4 +1,5 @@
--- Laws of parts: the first n of a list that is shorter, the first n of what begins with the first n, and zeros dropped. Assumes nothing.
+-- Laws of parts: the first n of a list that is shorter, the first n of what begins with the first
+-- n, and zeros dropped. Assumes nothing.
 use Prim.Native.Nat.{ℕ, zero, suc, _-_, min}
 use mathlib.Core.Path.{_≡_, refl, ap, sym, _∙_}
 use mathlib.Core.List.{List, [], _∷_, _++_}

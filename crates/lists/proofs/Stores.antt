@@ -1,5 +1,5 @@
--- What stores leave: a copy (copied), a part that was lent and came back (put-front), and a loop that fills an array of zeros from the front
--- (fill). Assumes nothing.
+-- What stores leave: a copy (copied), a part that was lent and came back (put-front), and a loop
+-- that fills an array of zeros from the front (fill). Assumes nothing.
 use Prim.Native.Nat.{ℕ, suc, _+_, _-_, _≤_, _<_}
 use mathlib.Core.Path.{_≡_, ap, sym, _∙_}
 use mathlib.Core.List.{List, [], _∷_, _++_, append-assoc, append-nil}
@@ -18,7 +18,8 @@ pub put-front : (p r s : List ℕ) (a k : ℕ) → length p ≡ a → length r �
 put-front p r s a k h l =
     rw (take-at p r a h, drop-at p r a h, take-all k r l, drop-of-length-le r l, append-nil, append-assoc)
 
--- What is done stands at the front of so many places, zeros after it; a store at its end does one more.
+-- What is done stands at the front of so many places, zeros after it; a store at its end does one
+-- more.
 pub fill : (size : ℕ) (done next places : List ℕ) (j x : ℕ) → length done ≡ j → j < size → next ≡ done ++ (x ∷ []) → places ≡ done ++ replicate (size - j) 0
     → set places j x ≡ next ++ replicate (size - (j + 1)) 0
 fill size done next places j x e l n p =

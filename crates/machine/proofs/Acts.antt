@@ -1,4 +1,5 @@
--- The act of a box, by its kind and what the code computed of it, however a mark is set; and that by the numbers of the mode this is the act by the rules, where the marks are of 16 inputs
+-- The act of a box, by its kind and what the code computed of it, however a mark is set; and that
+-- by the numbers of the mode this is the act by the rules, where the marks are of 16 inputs
 -- (`act-by-numbers`). Assumes nothing.
 use Prim.Native.Nat.{ℕ, zero, suc, _%_, _^_, _<_}
 use mathlib.Core.Path.{_≡_, refl, ap, sym, _∙_}

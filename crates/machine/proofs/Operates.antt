@@ -1,5 +1,5 @@
--- What an operation gives and the union of the marks that it reads, by its number: of none, of its left operand, of both; and what a choice gives, and the union of its four
--- marks. Assumes nothing.
+-- What an operation gives and the union of the marks that it reads, by its number: of none, of its
+-- left operand, of both; and what a choice gives, and the union of its four marks. Assumes nothing.
 use Prim.Native.Nat.{ℕ}
 use mathlib.Core.Path.{_≡_, ap, sym, _∙_}
 use mathlib.Core.List.{[], _∷_}

@@ -1,6 +1,7 @@
--- Laws of `run`: boxes add up, what is over stays as it is, how a loop that counts down takes the first box and ends. What holds where a box goes on, or ends the
--- run with a notice or spent, holds of what it comes to; what each box keeps, boxes keep, the mode and the limit among it. And laws of `kept`.
--- Assumes nothing.
+-- Laws of `run`: boxes add up, what is over stays as it is, how a loop that counts down takes the
+-- first box and ends. What holds where a box goes on, or ends the run with a notice or spent, holds
+-- of what it comes to; what each box keeps, boxes keep, the mode and the limit among it. And laws
+-- of `kept`. Assumes nothing.
 use Prim.Native.Nat.{ℕ, zero, suc, _+_, _-_, _<_, _≤_}
 use mathlib.Core.Path.{_≡_, refl, ap, sym, _∙_}
 use mathlib.Core.Bool.{Bool, true, false, cond, true≢false}
@@ -46,7 +47,8 @@ module _ (flow : ℕ → Box) where
   run-keeps Good f (suc m) (going q) h = run-keeps Good f m (step flow q) (f q h)
   run-keeps Good f (suc m) (over e steps) h = run-keeps Good f m (over e steps) h
 
--- A box that goes on: the run is spent, or below its limit. One that may give a notice gives it, or does something else.
+-- A box that goes on: the run is spent, or below its limit. One that may give a notice gives it, or
+-- does something else.
 module _ (Good : Progress → Type 0) where
   pub goes-by : (q : Run) → Good (over spent (q .steps)) → (q .steps < q .limit → Good (going q)) → Good (goesOn q)
   unfolding goesOn
@@ -85,7 +87,8 @@ run-as-begun flow m q = run-keeps flow (AsBegun q) (λ x h. settle-as-begun q _ 
 pub over-twice : (flow : ℕ → Box) (p : Progress) (e : Ending) (n steps m : ℕ) → run flow n p ≡ over e steps → run flow (n + m) p ≡ over e steps
 over-twice flow p e n steps m h = run-add flow n m p ∙ ap (run flow m) h ∙ over-still flow m e steps
 
--- What is kept is what the run has come to, or a notice that names nothing in no steps, where counts are hidden.
+-- What is kept is what the run has come to, or a notice that names nothing in no steps, where
+-- counts are hidden.
 pub kept-by : (Good : Progress → Type 0) (m : Mode) (p : Progress) → Good p → (hides m ≡ true → Good (over (notice 0) 0)) → Good (kept m p)
 unfolding kept
 kept-by Good m (going q) h n = h

@@ -21,8 +21,9 @@ entries numbers reads = map (entry numbers) reads
 abbrev pub noticeOr : Mode → (marks : ℕ) → Act → Act
 noticeOr mode marks other = cond (marked marks) (Notice (namedBy mode marks)) other
 
--- The act of a box, by the mode, the variables, their marks and the counter mark, and by how an assignment sets its target's mark, of the mark before and the marks read. It
--- stores a value and a mark, goes to a box with a counter mark, or ends the run.
+-- The act of a box, by the mode, the variables, their marks and the counter mark, and by how an
+-- assignment sets its target's mark, of the mark before and the marks read. It stores a value and a
+-- mark, goes to a box with a counter mark, or ends the run.
 unfoldable pub actBy : (sets : (before read : ℕ) → ℕ) → Mode → Box → (vars marks : List ℕ) → ℕ → Act
 actBy sets mode (assigns target reads gives next) vars marks counter =
     Store target (gives (entries vars reads)) (sets (entry marks target) (union (entries marks reads))) next

@@ -11,8 +11,8 @@ use Rattle.machine.specs.Act.{act}
 use Rattle.machine.specs.declared.Act.{Act}
 use Rattle.machine.specs.declared.Act.the-variants.{Store, Go, Value, Notice}
 
--- A run under way: "the 32 variables and their marks, the counter mark", and of "the few numbers the rules need" the mode, the box at hand, the
--- limit and the steps so far.
+-- A run under way: "the 32 variables and their marks, the counter mark", and of "the few numbers
+-- the rules need" the mode, the box at hand, the limit and the steps so far.
 pub record Run : Type 0 where
   pub vars : List ℕ
   pub marks : List ℕ
@@ -22,7 +22,8 @@ pub record Run : Type 0 where
   pub limit : ℕ
   pub steps : ℕ
 
--- The kind of an ending, with "the value if there is one", and 02, a: the set that a notice carries.
+-- The kind of an ending, with "the value if there is one", and 02, a: the set that a notice
+-- carries.
 pub data Ending : Type 0 where
   valued : ℕ → Ending
   notice : (named : ℕ) → Ending
@@ -38,12 +39,13 @@ abbrev pub moved : Run → (vars marks : List ℕ) → (counter at : ℕ) → Ru
 moved q vars marks counter at =
     record { vars = vars; marks = marks; counter = counter; mode = q .mode; at = at; limit = q .limit; steps = q .steps + 1 }
 
--- "if the box that makes the count equal the limit doesn't end the run, it ends "spent"." The steps of a run under way are below its limit, so
--- the count is at most the limit.
+-- "if the box that makes the count equal the limit doesn't end the run, it ends "spent"." The steps
+-- of a run under way are below its limit, so the count is at most the limit.
 unfoldable pub goesOn : Run → Progress
 goesOn q = cond (leb (q .limit) (q .steps)) (over spent (q .steps)) (going q)
 
--- The run after an act. "Halt and notice come before the limit", "the box that ends the run included" in the count.
+-- The run after an act. "Halt and notice come before the limit", "the box that ends the run
+-- included" in the count.
 unfoldable pub settle : Act → Run → Progress
 settle (Store target value mark next) q =
     goesOn (moved q (set (q .vars) (target % 32) value) (set (q .marks) (target % 32) mark) (q .counter) next)
@@ -65,7 +67,8 @@ unfoldable pub run : (flow : ℕ → Box) → ℕ → Progress → Progress
 run flow zero p = p
 run flow (suc m) p = run flow m (onward flow p)
 
--- What is kept of what a run has come to. 02, b: "In high-water mode a notice and a spent run now end alike: notice, steps 0, inputs 0."
+-- What is kept of what a run has come to. 02, b: "In high-water mode a notice and a spent run now
+-- end alike: notice, steps 0, inputs 0."
 unfoldable pub kept : Mode → Progress → Progress
 kept mode (going q) = going q
 kept mode (over (valued v) steps) = over (valued v) steps

@@ -1,4 +1,5 @@
-// What one box of a chart does, by the edition of the chart, the mode and its numbers, the variables, their marks and the counter mark.
+// What one box of a chart does, by the edition of the chart, the mode and its numbers, the
+// variables, their marks and the counter mark.
 use decode::FlowBox;
 use marks::Mode;
 use marks::Numbers;
@@ -9,7 +10,8 @@ ghost use Rattle.decode.specs.Decode.{meaning};
 ghost use Rattle.marks.specs.Marks.{union, setBy};
 ghost use Rattle.machine.specs.Act.{entry, entries, actBy};
 
-// It stores a value and a mark, it goes to a box with a counter mark, or it ends the run with a value or with a notice that names these inputs.
+// It stores a value and a mark, it goes to a box with a counter mark, or it ends the run with a
+// value or with a notice that names these inputs.
 pub enum Act {
     Store {
         target: u8,
@@ -25,13 +27,15 @@ pub enum Act {
     Notice(u16),
 }
 
-// A value and a mark: a variable's, or what an operation gives and the union of the marks that it reads.
+// A value and a mark: a variable's, or what an operation gives and the union of the marks that it
+// reads.
 struct Marked {
     value: u32,
     mark: u16,
 }
 
-// What an operation gives of its constant and its left and right operands, and the union of the marks that it reads; what it does not read does not matter.
+// What an operation gives of its constant and its left and right operands, and the union of the
+// marks that it reads; what it does not read does not matter.
 fn operate(edition: u8, op: u8, constant: u32, left: Marked, right: Marked) -> Marked
     ensures { λ r.
         ⌜ (r .value ≡ valueOf edition op constant (readBy edition op (left .value) (right .value)))
@@ -78,7 +82,8 @@ fn variable<'a>(vars: &'a [u32; 32], marks: &'a [u16; 32], v: u8) -> Marked
     with_mark(vars[i], marks[i])
 }
 
-// What a choice gives: the value of one variable or of the other, by the comparison, and the union of all four marks, whichever is copied.
+// What a choice gives: the value of one variable or of the other, by the comparison, and the union
+// of all four marks, whichever is copied.
 fn choose<'a>(
     vars: &'a [u32; 32],
     marks: &'a [u16; 32],
@@ -104,7 +109,8 @@ fn choose<'a>(
     with_mark(vars[j], read)
 }
 
-// What a box that assigns does, of what it gives: it stores the value, and sets its target's mark by the numbers. It is given no mode.
+// What a box that assigns does, of what it gives: it stores the value, and sets its target's mark
+// by the numbers. It is given no mode.
 fn store<'a>(
     numbers: Numbers,
     vars: &'a [u32; 32],
@@ -125,7 +131,8 @@ fn store<'a>(
     }
 }
 
-// What the box does; an assignment sets its target's mark by the numbers. By those of the mode this is the box's act by the rules (`act`).
+// What the box does; an assignment sets its target's mark by the numbers. By those of the mode this
+// is the box's act by the rules (`act`).
 pub fn run_box<'a>(
     edition: u8,
     mode: Mode,
@@ -167,7 +174,8 @@ pub fn run_box<'a>(
             }
             let taken = operations::compare(comparison, left.value, right.value);
             let after = marks::counter_mark(mode, counter, read);
-            // Two returns, so that the compiler branches here: the processor then goes on to a box before the variables are compared.
+            // Two returns, so that the compiler branches here: the processor then goes on to a box
+            // before the variables are compared.
             if taken {
                 return Act::Go {
                     next,

@@ -1,6 +1,8 @@
--- Laws of the marks: a union is no mark exactly where each of its parts is none, `marked` tells which mark is one, and a rule by the mode has what its
--- entries have; and the arithmetic that sets a mark is the rule of its mode. or-none, or-zeros; union-none; marked-none, none-marked, marked-or; by-mode, by-map;
--- set-surveillance, set-high-water, set-by-mode; set-sixteen. Assumes nothing.
+-- Laws of the marks: a union is no mark exactly where each of its parts is none, `marked` tells
+-- which mark is one, and a rule by the mode has what its entries have; and the arithmetic that sets
+-- a mark is the rule of its mode. or-none, or-zeros; union-none; marked-none, none-marked,
+-- marked-or; by-mode, by-map; set-surveillance, set-high-water, set-by-mode; set-sixteen. Assumes
+-- nothing.
 use Prim.Native.Nat.{ℕ, _^_, _<_}
 use mathlib.Core.Path.{_≡_, refl, sym, _∙_}
 use mathlib.Core.List.{List, _∷_}
@@ -36,7 +38,8 @@ marked-or a b = on (marked a) refl (marked (bitOr a b)) refl
     on true e false f = sym (none-marked a (or-none a b (marked-none _ f) .0)) ∙ e
     on false e y f = sym f ∙ rw (marked-none a e, or-zero-l)
 
--- What holds of each entry of a rule by the mode, in its mode, holds of the rule; and a rule seen through a function is the rule of what is seen.
+-- What holds of each entry of a rule by the mode, in its mode, holds of the rule; and a rule seen
+-- through a function is the rule of what is seen.
 pub by-mode : (P : Mode → ℕ → Type 0) (m : Mode) (a b c : ℕ) → P Bare a → P Surveillance b → P HighWater c → P m (byMode m a b c)
 by-mode P Bare a b c x y z = x
 by-mode P Surveillance a b c x y z = y
@@ -49,7 +52,8 @@ by-map f m a b c = by-mode (λ k x. f x ≡ byMode k (f a) (f b) (f c)) m a b c 
 and-all : (set : ℕ) → set < 2 ^ 16 → bitAnd set 65535 ≡ set
 and-all set l = omega (arith, and-mask set 16)
 
--- The arithmetic by a mode's number is the rule of the mode, and so in every mode by both of its numbers.
+-- The arithmetic by a mode's number is the rule of the mode, and so in every mode by both of its
+-- numbers.
 pub set-surveillance : (before read : ℕ) → setMark 0 before read ≡ targetMark Surveillance before read
 set-surveillance before read = rw (and-zero-r, or-zero-r)
 

@@ -1,5 +1,5 @@
--- The modes: the rules of the marks in each of them, and whether it hides its counts. A mark is a set of withheld inputs, a number whose bit j is input j; these
--- rules see no value.
+-- The modes: the rules of the marks in each of them, and whether it hides its counts. A mark is a
+-- set of withheld inputs, a number whose bit j is input j; these rules see no value.
 use Prim.Native.Nat.{ℕ}
 use mathlib.Core.List.{List, [], _∷_}
 use mathlib.Core.Bool.{Bool, true, false, cond, not}
@@ -9,15 +9,18 @@ use Rattle.marks.specs.declared.Mode.{Mode}
 use Rattle.marks.specs.declared.Mode.the-variants.{Bare, Surveillance, HighWater}
 use Rattle.marks.specs.declared.Numbers.{Numbers}
 
--- "mode (0 bare, 1 surveillance, 2 high-water)". No begin with a greater number is accepted; it would read as high-water.
+-- "mode (0 bare, 1 surveillance, 2 high-water)". No begin with a greater number is accepted; it
+-- would read as high-water.
 unfoldable pub modeOf : ℕ → Mode
 modeOf mode = cond (eqb mode 0) Bare (cond (eqb mode 1) Surveillance HighWater)
 
--- 02, a: "Each mark becomes a set of withheld inputs, empty exactly where 01 has no mark." So "The classes of the high-water mark are two".
+-- 02, a: "Each mark becomes a set of withheld inputs, empty exactly where 01 has no mark." So "The
+-- classes of the high-water mark are two".
 abbrev pub marked : ℕ → Bool
 marked mark = not (eqb mark 0)
 
--- 02, a: "where 01 marks a target or the counter from some variables' marks, the new set is the union of those sets".
+-- 02, a: "where 01 marks a target or the counter from some variables' marks, the new set is the
+-- union of those sets".
 unfoldable pub union : List ℕ → ℕ
 union [] = 0
 union (m ∷ marks) = bitOr m (union marks)
@@ -28,18 +31,21 @@ byMode Bare bare surveillance highWater = bare
 byMode Surveillance bare surveillance highWater = surveillance
 byMode HighWater bare surveillance highWater = highWater
 
--- The mark of the target after an assignment, by its mark before and the marks read. Bare has no rule, and the mark stays. "Surveillance: an
--- assignment marks its target if any variable it reads is marked, and otherwise unmarks it." "High-water: an assignment marks its target if
--- the target or any variable read is marked."
+-- The mark of the target after an assignment, by its mark before and the marks read. Bare has no
+-- rule, and the mark stays. "Surveillance: an assignment marks its target if any variable it reads
+-- is marked, and otherwise unmarks it." "High-water: an assignment marks its target if the target
+-- or any variable read is marked."
 abbrev pub targetMark : Mode → (before read : ℕ) → ℕ
 targetMark mode before read = byMode mode before read (bitOr before read)
 
--- 02, e: the target's new set "from one piece of arithmetic for both modes": the sets read, and of the old set what is in `keep`, "a 16-bit number whose bits say
--- which inputs of the old set to keep".
+-- 02, e: the target's new set "from one piece of arithmetic for both modes": the sets read, and of
+-- the old set what is in `keep`, "a 16-bit number whose bits say which inputs of the old set to
+-- keep".
 abbrev pub setMark : (keep before read : ℕ) → ℕ
 setMark keep before read = bitOr read (bitAnd before keep)
 
--- The numbers of a mode: which inputs to keep, "(0 under surveillance, 65,535 under high-water)", and which to take of the sets read. Bare keeps all and takes none.
+-- The numbers of a mode: which inputs to keep, "(0 under surveillance, 65,535 under high-water)",
+-- and which to take of the sets read. Bare keeps all and takes none.
 abbrev pub numbersOf : Mode → Numbers
 numbersOf mode = record { keep = byMode mode 65535 0 65535; take = byMode mode 0 65535 65535 }
 
@@ -47,25 +53,29 @@ numbersOf mode = record { keep = byMode mode 65535 0 65535; take = byMode mode 0
 abbrev pub setBy : Numbers → (before read : ℕ) → ℕ
 setBy numbers before read = setMark (numbers .keep) before (bitAnd read (numbers .take))
 
--- The marks for which a decision gives a notice, 0 where it goes on. Surveillance: "A decision that reads a marked variable ends with a notice, and
--- no comparison is made."
+-- The marks for which a decision gives a notice, 0 where it goes on. Surveillance: "A decision that
+-- reads a marked variable ends with a notice, and no comparison is made."
 abbrev pub decisionNotice : Mode → (read : ℕ) → ℕ
 decisionNotice mode read = byMode mode 0 read 0
 
--- High-water: "A decision sets the counter mark if it reads a marked variable, then goes on." 02, a: "the counter also keeps what it had".
+-- High-water: "A decision sets the counter mark if it reads a marked variable, then goes on." 02,
+-- a: "the counter also keeps what it had".
 abbrev pub counterMark : Mode → (counter read : ℕ) → ℕ
 counterMark mode counter read = byMode mode counter counter (bitOr counter read)
 
--- The marks for which a halt gives a notice, 0 where it gives the value. "Bare: halt gives the value of variable 31." Surveillance: "Halt gives a
--- notice if 31 is marked, else the value." High-water: "Halt gives a notice if 31 or the counter is marked, else the value."
+-- The marks for which a halt gives a notice, 0 where it gives the value. "Bare: halt gives the
+-- value of variable 31." Surveillance: "Halt gives a notice if 31 is marked, else the value."
+-- High-water: "Halt gives a notice if 31 or the counter is marked, else the value."
 abbrev pub haltNotice : Mode → (counter output : ℕ) → ℕ
 haltNotice mode counter output = byMode mode 0 output (bitOr counter output)
 
--- The set that a notice carries, of the marks for which it is given. 02, a: "A surveillance notice carries the set of the variables read by the
--- decision, or of variable 31 at halt. All other endings, and high-water notices, carry 0."
+-- The set that a notice carries, of the marks for which it is given. 02, a: "A surveillance notice
+-- carries the set of the variables read by the decision, or of variable 31 at halt. All other
+-- endings, and high-water notices, carry 0."
 abbrev pub namedBy : Mode → (marks : ℕ) → ℕ
 namedBy mode marks = byMode mode 0 marks 0
 
--- Whether a mode hides its counts, all but that of a value. 02, b: "High-water notices must not count."
+-- Whether a mode hides its counts, all but that of a value. 02, b: "High-water notices must not
+-- count."
 abbrev pub hides : Mode → Bool
 hides mode = byMode mode false false true

@@ -1,5 +1,6 @@
-// The modes: what an assignment leaves on its target, what a decision and a halt do, and whether counts are hidden. A mark is a set of withheld inputs, a number
-// whose bit j is input j; 0 is no mark.
+// The modes: what an assignment leaves on its target, what a decision and a halt do, and whether
+// counts are hidden. A mark is a set of withheld inputs, a number whose bit j is input j; 0 is no
+// mark.
 ghost use mathlib.Core.Path.{_≡_};
 ghost use Rattle.marks.specs.Marks.{modeOf, byMode, numbersOf, setBy, decisionNotice, counterMark, haltNotice, namedBy, hides};
 
@@ -31,7 +32,8 @@ fn by_mode(mode: Mode, bare: u16, surveillance: u16, high: u16) -> u16
     }
 }
 
-// The numbers by which an assignment in a mode sets its target's mark: which inputs it keeps of the old set, and which it takes of the sets read.
+// The numbers by which an assignment in a mode sets its target's mark: which inputs it keeps of the
+// old set, and which it takes of the sets read.
 pub struct Numbers {
     keep: u16,
     take: u16,
@@ -46,7 +48,8 @@ pub fn numbers_of(mode: Mode) -> Numbers
     Numbers { keep, take }
 }
 
-// The mark of the target after an assignment: what is taken of the marks read, and what is kept of its mark before.
+// The mark of the target after an assignment: what is taken of the marks read, and what is kept of
+// its mark before.
 pub fn set_mark(numbers: Numbers, before: u16, read: u16) -> u16
     ensures { λ m. ⌜ m ≡ setBy numbers before read ⌝ }
 {
@@ -67,7 +70,8 @@ pub fn counter_mark(mode: Mode, counter: u16, read: u16) -> u16
     by_mode(mode, counter, counter, counter | read)
 }
 
-// The marks for which a halt gives a notice, of the counter mark and the mark of variable 31; 0 where it gives the value.
+// The marks for which a halt gives a notice, of the counter mark and the mark of variable 31; 0
+// where it gives the value.
 pub fn halt_notice(mode: Mode, counter: u16, output: u16) -> u16
     ensures { λ m. ⌜ m ≡ haltNotice mode counter output ⌝ }
 {

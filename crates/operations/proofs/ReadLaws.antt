@@ -1,5 +1,5 @@
--- What an operation reads depends on the edition and its number only: of the images of two things it reads the images of what it reads of the things.
--- Assumes nothing.
+-- What an operation reads depends on the edition and its number only: of the images of two things
+-- it reads the images of what it reads of the things. Assumes nothing.
 use Prim.Native.Nat.{ℕ}
 use mathlib.Core.Path.{_≡_, refl}
 use mathlib.Core.List.{[], _∷_, map}

@@ -1,10 +1,12 @@
-// Operations 2 to 8, and the three comparisons. `machine::operate` has the others, over the kit's one bits, leading and trailing zeros.
+// Operations 2 to 8, and the three comparisons. `machine::operate` has the others, over the kit's
+// one bits, leading and trailing zeros.
 ghost use mathlib.Core.Path.{_≡_};
 ghost use Prim.Native.Nat.{_*_, _%_, _^_, min, max};
 ghost use mathlib.Core.List.{[], _∷_};
 ghost use Rattle.operations.specs.Operation.{sum, difference, quotient, remainder, compares};
 
-// The sum modulo 4,294,967,296; in edition 2 the greatest number where the true sum is larger, which is where it has wrapped below an operand.
+// The sum modulo 4,294,967,296; in edition 2 the greatest number where the true sum is larger,
+// which is where it has wrapped below an operand.
 pub fn sum(edition: u8, a: u32, b: u32) -> u32
     ensures { λ r. ⌜ r ≡ sum edition a b ⌝ }
 {

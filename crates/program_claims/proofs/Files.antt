@@ -1,4 +1,5 @@
--- A chart file that is too long is refused by its length alone, and so is its beginning. Assumes nothing.
+-- A chart file that is too long is refused by its length alone, and so is its beginning. Assumes
+-- nothing.
 use Prim.Native.Nat.{ℕ, _<_}
 use mathlib.Core.Path.{_≡_, refl, ap, sym, _∙_}
 use mathlib.Core.List.{List, []}

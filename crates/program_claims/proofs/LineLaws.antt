@@ -1,5 +1,5 @@
--- The claims about lines: an accepted one prints an ending, by `one-advance-ends`; and a begin starts one run on any runner that holds the chart.
--- Assumes nothing.
+-- The claims about lines: an accepted one prints an ending, by `one-advance-ends`; and a begin
+-- starts one run on any runner that holds the chart. Assumes nothing.
 use Prim.Native.Nat.{_-_}
 use mathlib.Core.Path.{_≡_, refl, ap, _∙_}
 use mathlib.Core.Bool.{false, cond}

@@ -1,5 +1,6 @@
--- The claims of a session, by induction on what it has done. Kept at every turn: what is written, and the answers to the bytes at hand with whatever comes
--- later, are the answers to all that was read with whatever comes later (Stands). Assumes nothing.
+-- The claims of a session, by induction on what it has done. Kept at every turn: what is written,
+-- and the answers to the bytes at hand with whatever comes later, are the answers to all that was
+-- read with whatever comes later (Stands). Assumes nothing.
 use Prim.Native.Nat.{ℕ, _^_, _≤_, _<_}
 use mathlib.Core.Path.{_≡_, refl, ap, sym, _∙_, subst}
 use mathlib.Core.List.{List, [], _∷_, _++_, append-assoc, append-nil, flatten}

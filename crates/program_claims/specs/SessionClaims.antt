@@ -1,4 +1,5 @@
--- The claims: however reads cut the input into pieces, and whatever room of 64 bytes or more the output has, what is written is the transcript.
+-- The claims: however reads cut the input into pieces, and whatever room of 64 bytes or more the
+-- output has, what is written is the transcript.
 use Prim.Native.Nat.{ℕ, _^_, _≤_, _<_}
 use mathlib.Core.Path.{_≡_}
 use mathlib.Core.List.{List, [], _∷_, _++_, flatten}
@@ -14,8 +15,9 @@ use Rattle.transcript.specs.Session.{State, write, read, stop, turn, received, 
 pub data Input : Type 0 where
   going ended broken : Input
 
--- What a session with an accepted chart file has done, in an output of some room: the pieces read so far, how far the input has come, where the session stands,
--- and what is written. It does what each turn wants. A piece that a read brings has a byte at least.
+-- What a session with an accepted chart file has done, in an output of some room: the pieces read
+-- so far, how far the input has come, where the session stands, and what is written. It does what
+-- each turn wants. A piece that a read brings has a byte at least.
 pub data Done (file : List ℕ) (room : ℕ) : List (List ℕ) → Input → State → List ℕ → Type 0 where
   start : Done file room [] going (record { count = 0; bytes = []; over = false }) (chartLine file)
   writes : {pieces : List (List ℕ)} {i : Input} {s s′ : State} {sofar text : List ℕ}
@@ -31,7 +33,8 @@ pub data Done (file : List ℕ) (room : ℕ) : List (List ℕ) → Input → Sta
 abbrev pub Fits : List (List ℕ) → Type 0
 Fits pieces = length (linesOf (flatten pieces)) < 2 ^ 64
 
--- A session that stops has written the transcript of all that was read, joined; or, where a read failed, of the lines of it that ended.
+-- A session that stops has written the transcript of all that was read, joined; or, where a read
+-- failed, of the lines of it that ended.
 abbrev pub WritesTranscript : Type 0
 WritesTranscript =
     (file : List ℕ) (room : ℕ) (pieces : List (List ℕ)) (s : State) (sofar : List ℕ)

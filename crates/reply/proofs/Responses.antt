@@ -1,4 +1,5 @@
--- What the calls' promises say of the texts: load's reply, and a begin, a run to its end and its answer. Assumes nothing.
+-- What the calls' promises say of the texts: load's reply, and a begin, a run to its end and its
+-- answer. Assumes nothing.
 use Prim.Native.Nat.{ℕ}
 use mathlib.Core.Path.{_≡_, refl, ap, sym, _∙_}
 use mathlib.Core.List.{List, []}

@@ -1,5 +1,6 @@
--- What the run program prints: "It prints the chart line (k and n), then a line per run. .. A refused chart prints its refusal and ends. A refused
--- line prints its refusal, and the next line is read."
+-- What the run program prints: "It prints the chart line (k and n), then a line per run. .. A
+-- refused chart prints its refusal and ends. A refused line prints its refusal, and the next line
+-- is read."
 use Prim.Native.Nat.{ℕ, _-_}
 use mathlib.Core.List.{List, []}
 use mathlib.Core.Bool.{Bool, true, false, cond}
@@ -53,6 +54,7 @@ runOut r = call (advance 65535) r .next
 unfoldable pub answered : Outcome → List ℕ
 answered o = cond (accepted (o .told .reply)) (replyText (call answer (runOut (o .next)) .told .reply)) (replyText (o .told .reply))
 
--- The text of a line. "11: the run program's line is ill-formed. Detail: line number from 1." A line that is not has three numbers or more.
+-- The text of a line. "11: the run program's line is ill-formed. Detail: line number from 1." A
+-- line that is not has three numbers or more.
 unfoldable pub respond : Runner → (number : ℕ) → (line : List ℕ) → List ℕ
 respond r number line = cond (eqb (parse line .count) 0) (refusedText 11 number) (answered (call (beginOf (parse line)) r))

@@ -63,7 +63,8 @@ fn print_answer(told: AnswerTold, out: &mut [u8]) -> usize
     }
 }
 
-// The text of a line of that number, by a runner that holds a chart: of the run to its end, or of what is refused. The runner is lent for the line alone.
+// The text of a line of that number, by a runner that holds a chart: of the run to its end, or of
+// what is refused. The runner is lent for the line alone.
 pub fn respond(runner: Runner, number: u64, text: &[u8], out: &mut [u8]) -> usize
     ensures { λ r. ⌜ r ≡ printedLength (respond runner number (now (text .entry))) (length (now (out .entry))) ⌝ }
     ensures { λ _. ⌜ now (out .exit) ≡ printed (respond runner number (now (text .entry))) (now (out .entry)) ⌝ }

@@ -1,4 +1,5 @@
--- What it says of two boxes of a table that they copy alike, and how that is read off the table's bytes. A copy stands at one of the 204 places. Assumes nothing.
+-- What it says of two boxes of a table that they copy alike, and how that is read off the table's
+-- bytes. A copy stands at one of the 204 places. Assumes nothing.
 use Prim.Native.Nat.{ℕ, _+_, _*_, _≤_, _<_}
 use mathlib.Core.Path.{_≡_, sym, ap, _∙_}
 use mathlib.Core.List.{List, [], _∷_}

@@ -1,6 +1,8 @@
--- A table rewritten in its own place, from the front. A box of it is the old one, or it was a decision and is a choice: a copy in neither table. What is asked of other boxes
--- is whether they are copies, and then their bytes, so judging on such a table is judging on the old one.
--- judged-same, same-place; copy-kept, box-before, box-after, copies-kept, place-more, all-rewritten; store-box, leave-box. Assumes nothing.
+-- A table rewritten in its own place, from the front. A box of it is the old one, or it was a
+-- decision and is a choice: a copy in neither table. What is asked of other boxes is whether they
+-- are copies, and then their bytes, so judging on such a table is judging on the old one.
+-- judged-same, same-place; copy-kept, box-before, box-after, copies-kept, place-more,
+-- all-rewritten; store-box, leave-box. Assumes nothing.
 use Prim.Native.Nat.{ℕ, _+_, _*_, _-_, _≤_, _<_}
 use mathlib.Core.Path.{_≡_, refl, ap, sym, _∙_}
 use mathlib.Core.List.{List, [], _++_, append-assoc, append-nil}

@@ -6,7 +6,8 @@ ghost use lib.ListN.{length, take, drop};
 ghost use Rattle.boxes.specs.Bytes.{boxOf};
 ghost use Rattle.rewrite.specs.Rewrite.{copyAlike, replacedAt, choiceOf, rewrittenBox, rewritten};
 
-// Whether the boxes of two numbers copy into one variable and go to one box. A number that no place has is of no box.
+// Whether the boxes of two numbers copy into one variable and go to one box. A number that no place
+// has is of no box.
 fn copy_alike(table: &[u8], one: u8, other: u8) -> bool
     requires { ⌜ length (now table) ≡ 2040 ⌝ }
     ensures { λ r. ⌜ r ≡ copyAlike (boxOf (now (table .entry)) one) (boxOf (now (table .entry)) other) ⌝ }
@@ -80,7 +81,8 @@ fn rewrite_place(table: &mut [u8], p: usize)
     }
 }
 
-// Every place of a table rewritten, in order. Each decision is judged on the table as it is by then, half rewritten, which is the same as judging on the old one.
+// Every place of a table rewritten, in order. Each decision is judged on the table as it is by
+// then, half rewritten, which is the same as judging on the old one.
 fn rewrite_all(table: &mut [u8])
     requires { ⌜ length (now table) ≡ 2040 ⌝ }
     ensures { λ _. ⌜ now (table .exit) ≡ rewritten (now (table .entry)) ⌝ }

@@ -1,5 +1,7 @@
--- The flow of a rewritten table beside that of the old one: of a number that is replaced the old flow decides between two copies, and the new one has the choice between them; of any other
--- number both do the same, at the 204 places and past them, where there is no box. So bare runs are as much shorter as `shorter` says, and so is a whole run. Assumes nothing.
+-- The flow of a rewritten table beside that of the old one: of a number that is replaced the old
+-- flow decides between two copies, and the new one has the choice between them; of any other number
+-- both do the same, at the 204 places and past them, where there is no box. So bare runs are as
+-- much shorter as `shorter` says, and so is a whole run. Assumes nothing.
 use Prim.Native.Nat.{ℕ, _-_, _≤_, _<_}
 use mathlib.Core.Path.{_≡_, refl, ap, sym, _∙_}
 use mathlib.Core.List.{List}

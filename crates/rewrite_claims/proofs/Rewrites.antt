@@ -1,5 +1,5 @@
--- What an accepted rewriting leaves, by the definition of the call, and what holds of every reachable runner; and that its bare runs are shorter, from that of whole runs. Assumes
--- nothing.
+-- What an accepted rewriting leaves, by the definition of the call, and what holds of every
+-- reachable runner; and that its bare runs are shorter, from that of whole runs. Assumes nothing.
 use Prim.Native.Nat.{ℕ}
 use mathlib.Core.Path.{_≡_, ap, sym, _∙_, subst}
 use mathlib.Core.List.{[]}

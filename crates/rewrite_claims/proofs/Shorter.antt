@@ -1,7 +1,9 @@
--- Two flows, of which the new one has choices in the place of decisions between two copies, and their bare runs: where the old run comes to a value, so does the new one, in as many
--- fewer steps as choices put in were run. By induction on the boxes, the two runs being at one box with the same variables and marks. A box that stays does the same to both; where a
--- choice was put in, the old run takes two boxes, the decision and a copy, and the new one takes one. The new run has never counted more than the old one, so it goes on where that does.
--- Assumes nothing.
+-- Two flows, of which the new one has choices in the place of decisions between two copies, and
+-- their bare runs: where the old run comes to a value, so does the new one, in as many fewer steps
+-- as choices put in were run. By induction on the boxes, the two runs being at one box with the
+-- same variables and marks. A box that stays does the same to both; where a choice was put in, the
+-- old run takes two boxes, the decision and a copy, and the new one takes one. The new run has
+-- never counted more than the old one, so it goes on where that does. Assumes nothing.
 use Prim.Native.Nat.{ℕ, zero, suc, _+_, _%_, _≤_, _<_}
 use mathlib.Core.Path.{_≡_, refl, ap, sym, _∙_}
 use mathlib.Core.List.{List, [], _∷_}
@@ -28,7 +30,8 @@ pub record Copies (target from next : ℕ) (b : Box) : Type 0 where
   pub is : b ≡ assigns target (from ∷ []) gives next
   pub same : (v : ℕ) → gives (v ∷ []) ≡ v
 
--- At number p the old flow f decides between two copies, and the new one, f′, has the choice between them.
+-- At number p the old flow f decides between two copies, and the new one, f′, has the choice
+-- between them.
 pub record Chooses (f f′ : ℕ → Box) (p : ℕ) : Type 0 where
   pub comparison : ℕ
   pub left : ℕ
@@ -98,7 +101,8 @@ module _ (f f′ : ℕ → Box) (put : ℕ → Bool) (v s : ℕ) where
   abbrev pub Old : (m : ℕ) → Progress → Type 0
   Old m p = run f m p ≡ over (valued v) s
 
-  -- m boxes of the new run come to it, in as many fewer steps as boxes put in are run: the old run counts from k to s, the new one from c to its steps.
+  -- m boxes of the new run come to it, in as many fewer steps as boxes put in are run: the old run
+  -- counts from k to s, the new one from c to its steps.
   pub record New (m : ℕ) (p : Progress) (k c : ℕ) : Type 0 where
     pub steps : ℕ
     pub ends : run f′ m p ≡ over (valued v) steps
@@ -140,7 +144,8 @@ module _ (f f′ : ℕ → Box) (put : ℕ → Bool) (v s : ℕ) where
           }
       settle-level (Notice named) o = valued-only m (k + 1) _ o (λ e. clash cc)
 
-      -- The old run is at a copy. As it is over after m boxes, it is over after the copy and m more.
+      -- The old run is at a copy. As it is over after m boxes, it is over after the copy and m
+      -- more.
       copy-level : {target from next : ℕ} (at : ℕ) → Copies target from next (f at) → Old m (goesOn (counting (decided q at) (k + 1)))
           → New m (goesOn (copied q target from next)) (k + 1 + 1) (q .steps + 1)
       unfolding run onward

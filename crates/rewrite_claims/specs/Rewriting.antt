@@ -1,4 +1,5 @@
--- Claims about the rewriter through the calls (02, g): the chart that is then held, and what its runs come to.
+-- Claims about the rewriter through the calls (02, g): the chart that is then held, and what its
+-- runs come to.
 use Prim.Native.Nat.{ℕ, zero, suc, _+_, _-_, _≤_, _<_}
 use mathlib.Core.Path.{_≡_}
 use mathlib.Core.List.{List, []}
@@ -27,8 +28,9 @@ WritesItself x =
     × (call (load (take bytes (call (writeBack buffer) x .told .buffer))) r′
     ≡ record { told = record { reply = chart (x .header .inputs) (x .header .boxes); buffer = [] }; next = x })
 
--- What an accepted rewriting leaves: "It tells only that it was done"; "The new chart is then held, and an ended run is forgotten". Its header is the old one's, each place has the box that
--- it gets, judged on the old chart, and the boxes obey the rules.
+-- What an accepted rewriting leaves: "It tells only that it was done"; "The new chart is then held,
+-- and an ended run is forgotten". Its header is the old one's, each place has the box that it gets,
+-- judged on the old chart, and the boxes obey the rules.
 pub record Rewrites (r : Runner) : Type 0 where
   pub told : call rewrite r .told ≡ record { reply = done; buffer = [] }
   pub held : isHeld (call rewrite r .next) ≡ true
@@ -47,14 +49,16 @@ boxesRun flow counted zero p = 0
 boxesRun flow counted (suc m) (going q) = cond (counted (q .at)) 1 0 + boxesRun flow counted m (step flow q)
 boxesRun flow counted (suc m) (over e steps) = 0
 
--- A whole run of a runner's chart in a mode ends with a value, in as many fewer steps than given as boxes that count were run.
+-- A whole run of a runner's chart in a mode ends with a value, in as many fewer steps than given as
+-- boxes that count were run.
 abbrev pub EndsInFewer : (mode : ℕ) (counted : ℕ → Bool) (inputs : List ℕ) (allowed limit v steps : ℕ) → Runner → Type 0
 EndsInFewer mode counted inputs allowed limit v steps x =
     let fewer = boxesRun (flowIn x) counted limit (going (startOf mode inputs allowed limit (x .header))) in
     (fewer ≤ steps) × (whole (x .header) (x .table) mode inputs allowed limit ≡ record { ending = valued v; steps = steps - fewer })
 
--- In a mode, and with some boxes counted, by the old table and the new one: where a whole run of the old chart ends with a value, that of the new one, "from the same inputs and limit,
--- ends with that value, in as many fewer steps as" boxes that count "were run".
+-- In a mode, and with some boxes counted, by the old table and the new one: where a whole run of
+-- the old chart ends with a value, that of the new one, "from the same inputs and limit, ends with
+-- that value, in as many fewer steps as" boxes that count "were run".
 abbrev pub FewerStepsBy : (mode : ℕ) (counts : (old new : List ℕ) → ℕ → Bool) → Type 0
 FewerStepsBy mode counts =
     (r : Runner)
@@ -64,12 +68,14 @@ FewerStepsBy mode counts =
     → whole (r .header) (r .table) mode inputs allowed limit ≡ record { ending = valued v; steps = steps }
     → let new = call rewrite r .next in EndsInFewer mode (counts (r .table) (new .table)) inputs allowed limit v steps new
 
--- "If the bare old chart ends with a value, the bare new one, from the same inputs and limit, ends with that value, in as many fewer steps as kind 4 boxes put in by the
--- rewriter were run." It puts one into each place that it replaces; a kind 4 box that was drawn does not count.
+-- "If the bare old chart ends with a value, the bare new one, from the same inputs and limit, ends
+-- with that value, in as many fewer steps as kind 4 boxes put in by the rewriter were run." It puts
+-- one into each place that it replaces; a kind 4 box that was drawn does not count.
 abbrev pub FewerSteps : Type 0
 FewerSteps = FewerStepsBy 0 (λ old new. replacedAt old)
 
--- `Rewrites` at its exact bounds: the last place, and a buffer of exactly 2,560 bytes. It follows from `RewritesHeld` alone.
+-- `Rewrites` at its exact bounds: the last place, and a buffer of exactly 2,560 bytes. It follows
+-- from `RewritesHeld` alone.
 abbrev pub RewritesWithinBounds : Type 0
 RewritesWithinBounds =
     (r r′ : Runner)

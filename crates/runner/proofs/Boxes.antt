@@ -1,5 +1,6 @@
--- The loop of advance: what the box at hand does, by the act that the code computed of it, how the run ends or goes on after it, and what advance
--- leaves and tells where the loop is left. Assumes nothing.
+-- The loop of advance: what the box at hand does, by the act that the code computed of it, how the
+-- run ends or goes on after it, and what advance leaves and tells where the loop is left. Assumes
+-- nothing.
 use Prim.Native.Nat.{ℕ, zero, suc, _+_, _-_, _*_, _%_, _^_, _<_, _≤_}
 use mathlib.Core.Path.{_≡_, refl, ap, sym, _∙_, subst}
 use mathlib.Core.Logic.{_⊎_, inr, ⊎-elim}
@@ -63,7 +64,8 @@ pub stored-more : (r s q : Runner) (vars marks : List ℕ) (counter : ℕ) → S
 stored-more r s q vars marks counter h e =
     subst (Stored r) (sym (e ∙ ap (λ (x : Runner). placed x vars marks counter) h)) refl
 
--- The box at hand of a runner s that has come from r, by the half of its number, and the act that the code computed of it by the numbers of the mode.
+-- The box at hand of a runner s that has come from r, by the half of its number, and the act that
+-- the code computed of it by the numbers of the mode.
 pub acts : (s r : Runner) (edition : ℕ) (mode : Mode) (numbers : Numbers) (at half steps : ℕ) (b : FlowBox) (a : Act) → Stored r s → SixteenInputs (s .marks)
     → edition ≡ r .header .edition → mode ≡ modeOf (r .mode) → numbers ≡ numbersOf mode → Finds half at
     → b ≡ boxFrom (s .table) (2 * half) → a ≡ actBy (setBy numbers) mode (meaning edition b) (s .vars) (s .marks) (s .counter)
@@ -92,7 +94,8 @@ stays-sixteen s mode numbers b a small en ea t v m next d =
     (ap (λ (n : Numbers). actBy (setBy n) mode b (s .vars) (s .marks) (s .counter)) (sym en) ∙ sym ea ∙ d)
     (stores-sixteen mode b (s .vars) (s .marks) (s .counter)))
 
--- What the type of a runner says of its steps and marks: what owning the runner tells has a part for each field, and of an array a part for each element.
+-- What the type of a runner says of its steps and marks: what owning the runner tells has a part
+-- for each field, and of an array a part for each element.
 each-sixteen : (xs : List ℕ) (us : List Val) → shadow (each (u16-field .row .Denot) (u16-field .row .own) (map (u16-field .into) xs) us) → SixteenInputs xs
 each-sixteen [] us p v = omega arith
 each-sixteen (x ∷ xs) [] p v = absurd p
@@ -122,7 +125,8 @@ pub goes-further : (q : Run) → q .steps < q .limit → goesOn q ≡ going q
 unfolding goesOn
 goes-further q h = rw (lt-leb _ _ h)
 
--- What m boxes of a run come to: it goes on in the runner s at a box after so many steps, or it is over.
+-- What m boxes of a run come to: it goes on in the runner s at a box after so many steps, or it is
+-- over.
 abbrev pub CameTo : (flow : ℕ → Box) (m : ℕ) (q : Run) (s : Runner) (at end value named steps : ℕ) → Type 0
 CameTo flow m q s at end value named steps =
     ((end ≡ 1) × (steps < 2 ^ 16) × (run flow m (going q) ≡ going (seen s at steps)))

@@ -1,4 +1,5 @@
--- The outcome of each call, case by case, over plain variables: what the proof of a method cites where it returns. Assumes nothing.
+-- The outcome of each call, case by case, over plain variables: what the proof of a method cites
+-- where it returns. Assumes nothing.
 use Prim.Native.Nat.{ℕ, _≤_, _<_}
 use mathlib.Core.Path.{_≡_, ap, sym, _∙_}
 use mathlib.Core.List.{List, []}

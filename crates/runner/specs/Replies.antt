@@ -1,4 +1,5 @@
--- What the code's answers tell, one definition for each enum: document 01's number, detail and values for every case.
+-- What the code's answers tell, one definition for each enum: document 01's number, detail and
+-- values for every case.
 use Rattle.chart.specs.declared.Written.{Written}
 use Rattle.chart.specs.declared.Written.the-variants as written
 use Rattle.machine.specs.Run.{valued, notice, spent}

@@ -1,5 +1,6 @@
--- "The runner holds the box table, the 32 variables and their marks, the counter mark and the ending, besides the few numbers the rules
--- need." Those are the header of the chart; of a run under way the mode, the box at hand, the limit and the steps so far; and what state it is in.
+-- "The runner holds the box table, the 32 variables and their marks, the counter mark and the
+-- ending, besides the few numbers the rules need." Those are the header of the chart; of a run
+-- under way the mode, the box at hand, the limit and the steps so far; and what state it is in.
 use Prim.Native.Nat.{ℕ}
 use mathlib.Core.Bool.{Bool, cond}
 use lib.Dec.{eqb, leb}
@@ -12,7 +13,8 @@ use Rattle.machine.specs.Run.{Run, Ending, valued, notice, spent, Progress, goi
 use Rattle.calls.specs.declared.Standing.{Standing}
 use Rattle.runner.specs.declared.Runner.{Runner}
 
--- The chart in a runner. It holds one where the header's numbers of inputs and boxes and its first box are those of a file; a new runner's are 0.
+-- The chart in a runner. It holds one where the header's numbers of inputs and boxes and its first
+-- box are those of a file; a new runner's are 0.
 abbrev pub chartIn : Runner → Chart
 chartIn r = record { header = r .header; table = r .table }
 
@@ -40,7 +42,8 @@ stateOf (valued v) = 2
 stateOf (notice named) = 3
 stateOf spent = 4
 
--- What an ending carries: a value, 0 where there is none; and 02, a: the set of a notice, where "All other endings .. carry 0".
+-- What an ending carries: a value, 0 where there is none; and 02, a: the set of a notice, where
+-- "All other endings .. carry 0".
 abbrev pub valueIn : Ending → ℕ
 valueIn (valued v) = v
 valueIn (notice named) = 0
@@ -54,8 +57,8 @@ namedIn spent = 0
 abbrev pub endingIn : Runner → Ending
 endingIn r = cond (eqb (r .state) 2) (valued (r .value)) (cond (eqb (r .state) 3) (notice (r .named)) spent)
 
--- The runner of a chart, a run, a state, and of an ended run the steps that it took, its value and the set that it names: every runner is built
--- here.
+-- The runner of a chart, a run, a state, and of an ended run the steps that it took, its value and
+-- the set that it names: every runner is built here.
 abbrev pub runnerOf : Chart → Run → (state took value named : ℕ) → Runner
 runnerOf c q state took value named =
     record {
@@ -83,7 +86,8 @@ runIn r =
 abbrev pub withRun : Run → Runner → Runner
 withRun q r = runnerOf (chartIn r) q (r .state) (r .took) (r .value) (r .named)
 
--- "When a run ends or is dropped, the variables, their marks and the counter mark become 0", and so does every other number of the run.
+-- "When a run ends or is dropped, the variables, their marks and the counter mark become 0", and so
+-- does every other number of the run.
 abbrev pub noRun : Run
 noRun = record { vars = replicate 32 0; marks = replicate 32 0; counter = 0; mode = 0; at = 0; limit = 0; steps = 0 }
 
@@ -105,7 +109,8 @@ endedWith e steps r = runnerOf (chartIn r) noRun (stateOf e) steps (valueIn e) (
 unfoldable pub dropped : Runner → Runner
 dropped r = idle (chartIn r)
 
--- What m boxes of the run in a runner come to, by the flow of the chart held and as it is kept; and the runner that has come to it.
+-- What m boxes of the run in a runner come to, by the flow of the chart held and as it is kept; and
+-- the runner that has come to it.
 abbrev pub flowIn : Runner → ℕ → Box
 flowIn r = flow (r .header .edition) (r .table)
 

@@ -1,4 +1,5 @@
--- A whole run: its ending and steps, on any chart, in any mode, from any inputs and allowed set, within any limit.
+-- A whole run: its ending and steps, on any chart, in any mode, from any inputs and allowed set,
+-- within any limit.
 use Prim.Native.Nat.{ℕ}
 use mathlib.Core.List.{List}
 use Rattle.format.specs.declared.Header.{Header}
@@ -7,7 +8,8 @@ use Rattle.marks.specs.Marks.{modeOf}
 use Rattle.machine.specs.Run.{Run, Ending, spent, Progress, going, over, run, kept}
 use Rattle.begin.specs.Begin.{firstVars, firstMarks}
 
--- A run at its start: "Inputs are copied, other variables are 0, each withheld input is marked and nothing else is."
+-- A run at its start: "Inputs are copied, other variables are 0, each withheld input is marked and
+-- nothing else is."
 abbrev pub startOf : (mode : ℕ) (inputs : List ℕ) (allowed limit : ℕ) → Header → Run
 startOf mode inputs allowed limit h =
     record { vars = firstVars inputs; marks = firstMarks allowed (h .inputs); counter = 0; mode = mode; at = h .first; limit = limit; steps = 0 }
@@ -17,7 +19,8 @@ pub record Finish : Type 0 where
   pub ending : Ending
   pub steps : ℕ
 
--- The ending that a run has come to; of one that goes on, spent so far. As many boxes as a limit above 0 end every run.
+-- The ending that a run has come to; of one that goes on, spent so far. As many boxes as a limit
+-- above 0 end every run.
 unfoldable pub finish : Progress → Finish
 finish (going q) = record { ending = spent; steps = q .steps }
 finish (over e steps) = record { ending = e; steps = steps }

@@ -18,9 +18,12 @@ ghost use Rattle.runner.specs.Outcomes.{outcome, turnedAway, call};
 ghost use Rattle.runner.specs.Outcomes as outcomes;
 ghost use Rattle.runner.specs.Replies.{loadReply, verdictReply, advanceReply, answerReply, writtenReply};
 
-// The chart that is held: its header and the box table. Of a run under way: the counter mark, the mode, the box at hand, the limit and the steps so far, and last the
-// variables and their marks. `state` is 0 without a run, 1 with one under way, and 2, 3 or 4 where one has ended with a value, a notice or spent; it `took` so many steps, its
-// value is `value`, and its notice names the inputs of the set `named`. What a run stores to is not beside the table, so that the table is not copied with it.
+// The chart that is held: its header and the box table. Of a run under way: the counter mark, the
+// mode, the box at hand, the limit and the steps so far, and last the variables and their marks.
+// `state` is 0 without a run, 1 with one under way, and 2, 3 or 4 where one has ended with a value,
+// a notice or spent; it `took` so many steps, its value is `value`, and its notice names the inputs
+// of the set `named`. What a run stores to is not beside the table, so that the table is not copied
+// with it.
 pub struct Runner {
     header: Header,
     table: [u8; 2040],
@@ -182,7 +185,8 @@ impl Runner {
         Changed { told, runner: self }
     }
 
-    // Runs m boxes, or fewer if the run ends, and tells which. `end` is the state that the run comes to; it stays 1 where the run has not ended.
+    // Runs m boxes, or fewer if the run ends, and tells which. `end` is the state that the run
+    // comes to; it stays 1 where the run has not ended.
     pub fn advance(mut self, m: u32) -> Advanced
         ensures { λ r. ⌜ outcome (advanceReply (r .told)) [] (r .runner) ≡ call (advance m) self ⌝ }
     {
@@ -306,7 +310,8 @@ impl Runner {
         }
     }
 
-    // The file of the held chart at the front of a lent buffer. The runner that follows is the one lent.
+    // The file of the held chart at the front of a lent buffer. The runner that follows is the one
+    // lent.
     pub fn write_back(self, buf: &mut [u8]) -> Written
         ensures { λ r. ⌜ outcome (writtenReply r) (now (buf .exit)) self ≡ call (writeBack (now (buf .entry))) self ⌝ }
     {
@@ -370,8 +375,8 @@ fn amount(verdict: Verdict, m: u32) -> u32
     }
 }
 
-// What is kept of an ended run besides its value: its state, the steps that it took, and the set that it names. A value keeps its count; where counts are hidden,
-// nothing else does.
+// What is kept of an ended run besides its value: its state, the steps that it took, and the set
+// that it names. A value keeps its count; where counts are hidden, nothing else does.
 struct Remains {
     state: u8,
     took: u32,
@@ -395,7 +400,8 @@ fn kept(hidden: bool, state: u8, took: u32, named: u16) -> Remains
     Remains { state, took, named }
 }
 
-// What advance tells by the verdict on it, of a run that has come to state `end` where it was accepted.
+// What advance tells by the verdict on it, of a run that has come to state `end` where it was
+// accepted.
 fn tell(verdict: Verdict, hidden: bool, end: u8, steps: u32) -> AdvanceTold
     ensures { λ r.
         ⌜ advanceReply r ≡ byVerdict verdict (cond (eqb end 1) (outcomes.running steps) (outcomes.ended (cond hidden 0 steps))) turnedAway ⌝ }

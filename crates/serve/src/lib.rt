@@ -1,5 +1,6 @@
-// The run program's calls of the system: chart.bin is read, then standard input, as the turns of `transcript` want it, and what they want is written. Standard
-// error is told what standard output cannot say.
+// The run program's calls of the system: chart.bin is read, then standard input, as the turns of
+// `transcript` want it, and what they want is written. Standard error is told what standard output
+// cannot say.
 use libc::STDERR_FILENO;
 use libc::STDIN_FILENO;
 use libc::STDOUT_FILENO;
@@ -12,8 +13,8 @@ ghost use lib.ListN.{length};
 ghost use Rattle.io.specs.Counts.{Counts};
 ghost use Rattle.transcript.specs.Transcript.{readOfFile};
 
-// Reads chart.bin to the front of a buffer, and answers how many bytes: none where it cannot be read. There is no equation, since no contract can say what the file
-// holds.
+// Reads chart.bin to the front of a buffer, and answers how many bytes: none where it cannot be
+// read. There is no equation, since no contract can say what the file holds.
 pub fn read_chart(buf: &mut [u8; 2561]) -> usize
     ensures { λ r. ⌜ Counts r (now (buf .exit)) ⌝ }
 {
@@ -70,7 +71,8 @@ fn read(session: Session, buffer: &mut [u8]) -> Session
     transcript::received(session, got, buffer)
 }
 
-// Does what each turn wants, until one wants to stop or a write fails. An ending loop counts its turns, from a number that no run uses up.
+// Does what each turn wants, until one wants to stop or a write fails. An ending loop counts its
+// turns, from a number that no run uses up.
 fn serve(runner: Runner, buffer: &mut [u8], out: &mut [u8]) {
     let mut session = Session {
         count: 0,

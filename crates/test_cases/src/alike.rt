@@ -1,4 +1,5 @@
-// A chart and its converted one, each in a runner of its own: the same random calls to both, and what they tell is compared.
+// A chart and its converted one, each in a runner of its own: the same random calls to both, and
+// what they tell is compared.
 use crate::made::Made;
 use crate::made::advance;
 use crate::made::begin;

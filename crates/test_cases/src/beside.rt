@@ -1,4 +1,5 @@
-// A chart of edition 2 and its rewritten one, each in a runner of its own: runs with the same random arguments, and how they end is compared.
+// A chart of edition 2 and its rewritten one, each in a runner of its own: runs with the same
+// random arguments, and how they end is compared.
 use crate::compare;
 use crate::made;
 use crate::pair::Pair;
@@ -40,7 +41,8 @@ fn run(pair: Pair, state: &mut u64, charts: Charts, k: u32, mode: u32) -> Pair {
     pair.beside(old, new, mode == 0, charts.same)
 }
 
-// Three bare runs of a file's chart and of its rewritten one, and two under surveillance, where the file loads and is of edition 2.
+// Three bare runs of a file's chart and of its rewritten one, and two under surveillance, where the
+// file loads and is of edition 2.
 pub fn runs(pair: Pair, state: &mut u64, file: &[u8]) -> Pair {
     let loaded = made::load(Runner::new(), file);
     let old = loaded.runner;

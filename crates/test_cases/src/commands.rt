@@ -1,5 +1,5 @@
-// The commands of the fixed cases, one to a line: they change the chart file, make a call, or say what the last call is to tell or what the file is to hold. The file
-// `stdin` has the list of them.
+// The commands of the fixed cases, one to a line: they change the chart file, make a call, or say
+// what the last call is to tell or what the file is to hold. The file `stdin` has the list of them.
 use crate::pair;
 use crate::pair::Pair;
 use test_samples::arguments::first_inputs;

@@ -1,4 +1,5 @@
-// What the two sides tell, compared, and the charts that they hold. The model says the numbers of `told` by itself.
+// What the two sides tell, compared, and the charts that they hold. The model says the numbers of
+// `told` by itself.
 use runner::Runner;
 use test_second::Model;
 use told::Encoded;
@@ -38,8 +39,9 @@ pub fn model_holds(model: Model, runner: Runner) -> bool {
     same_bytes(&one, &two)
 }
 
-// A run of a chart may end as `old` and, with the same arguments, one of its rewritten chart as `new`. Where both have a value it is one value, in no more steps; a bare run keeps its
-// value. `equal` says that the chart is rewritten to itself.
+// A run of a chart may end as `old` and, with the same arguments, one of its rewritten chart as
+// `new`. Where both have a value it is one value, in no more steps; a bare run keeps its value.
+// `equal` says that the chart is rewritten to itself.
 pub fn may_end(old: Encoded, new: Encoded, bare: bool, equal: bool) -> bool {
     if equal | (old.kind == kinds::REFUSED) {
         return same(old, new);

@@ -1,5 +1,5 @@
-// Where each number of what was reached stands among the counts: refusals at their own numbers, 1 to 24, and then the others in the order in
-// which they are printed.
+// Where each number of what was reached stands among the counts: refusals at their own numbers, 1
+// to 24, and then the others in the order in which they are printed.
 use told::Encoded;
 use told::kinds;
 
@@ -48,8 +48,9 @@ pub const REWRITTEN: u32 = 62;
 
 pub const CHANGED: u32 = 63;
 
-// Bare runs of a chart and of its rewritten one that ended with one value, and those of them that took fewer steps; then runs under surveillance that ended with a notice on the
-// chart and with a value on its rewritten one.
+// Bare runs of a chart and of its rewritten one that ended with one value, and those of them that
+// took fewer steps; then runs under surveillance that ended with a notice on the chart and with a
+// value on its rewritten one.
 const BESIDE: u32 = 64;
 
 const FEWER: u32 = 65;
@@ -72,7 +73,8 @@ pub fn place(t: Encoded, done: u32) -> u32 {
     }
 }
 
-// Where an ending is counted by the inputs that it names; nowhere that is printed, where it is no notice.
+// Where an ending is counted by the inputs that it names; nowhere that is printed, where it is no
+// notice.
 pub fn named(t: Encoded) -> u32 {
     if t.kind != kinds::NOTICE {
         return 0;
@@ -84,7 +86,8 @@ pub fn named(t: Encoded) -> u32 {
     if inputs == 1 { NAMED + 1 } else { NAMED }
 }
 
-// Where a load is counted by the edition of its file; nowhere that is printed, where it was refused.
+// Where a load is counted by the edition of its file; nowhere that is printed, where it was
+// refused.
 pub fn edition(t: Encoded, edition: u32) -> u32 {
     if t.kind != kinds::CHART {
         return 0;
@@ -104,7 +107,8 @@ pub fn converted(t: Encoded, edition: u32) -> u32 {
     }
 }
 
-// Where a load of a file with two blocks exchanged is counted; nowhere that is printed, where a run was under way.
+// Where a load of a file with two blocks exchanged is counted; nowhere that is printed, where a run
+// was under way.
 pub fn exchanged(t: Encoded, edition: u32) -> u32 {
     let start = EXCHANGED + 3 * (1 - edition % 2);
     if t.kind == kinds::CHART {
@@ -116,7 +120,8 @@ pub fn exchanged(t: Encoded, edition: u32) -> u32 {
     if t.first == 6 { start + 2 } else { 0 }
 }
 
-// Where a chart's ending and its rewritten one's are counted; nowhere that is printed, where they are of no such kind.
+// Where a chart's ending and its rewritten one's are counted; nowhere that is printed, where they
+// are of no such kind.
 pub fn beside(old: Encoded, new: Encoded, bare: bool) -> u32 {
     if new.kind != kinds::VALUE {
         return 0;

@@ -1,6 +1,8 @@
-// Runs the cases of document 01 that are not marked (P), and cases of document 02, which standard input has, and random lists of calls, on the runner and on the second
-// interpreter; and charts beside their converted ones and beside their rewritten ones, on two runners. It stops at the first difference, and else says what was reached. Its functions
-// have no equations: what it prints is compared.
+// Runs the cases of document 01 that are not marked (P), and cases of document 02, which standard
+// input has, and random lists of calls, on the runner and on the second interpreter; and charts
+// beside their converted ones and beside their rewritten ones, on two runners. It stops at the
+// first difference, and else says what was reached. Its functions have no equations: what it prints
+// is compared.
 mod alike;
 mod beside;
 mod commands;
@@ -25,7 +27,8 @@ const SEED: u64 = 88172645463325252;
 // The random cases are numbered from 1, below this.
 const CASES: u32 = 100000;
 
-// A chart's file and a list of calls with it; at times the chart is run beside its converted one or its rewritten one. The pair is often the one that the case before left.
+// A chart's file and a list of calls with it; at times the chart is run beside its converted one or
+// its rewritten one. The pair is often the one that the case before left.
 fn random_case(pair: Pair, state: &mut u64, file: &mut File) -> Pair {
     if !pair.same {
         return pair;

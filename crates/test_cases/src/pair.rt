@@ -1,5 +1,5 @@
-// The runner and the model, which is the second interpreter's, side by side: each call goes to both with the same arguments, what they tell is
-// compared, and what was reached is counted.
+// The runner and the model, which is the second interpreter's, side by side: each call goes to both
+// with the same arguments, what they tell is compared, and what was reached is counted.
 use crate::compare;
 use crate::counts;
 use crate::made;
@@ -15,9 +15,11 @@ use test_text::text::part;
 use told::Encoded;
 use told::kinds;
 
-// `told` is what the last call told, and `whole` the answer of a copy of the model that was advanced at once by the whole limit of the last
-// run. `inputs` and `boxes` are those of the chart held, `mode` and `limit` those of the last run. `same` becomes false at the first difference;
-// `case` and `calls` say where that is. `exchanged` says that the case's file is a chart's with two blocks exchanged.
+// `told` is what the last call told, and `whole` the answer of a copy of the model that was
+// advanced at once by the whole limit of the last run. `inputs` and `boxes` are those of the chart
+// held, `mode` and `limit` those of the last run. `same` becomes false at the first difference;
+// `case` and `calls` say where that is. `exchanged` says that the case's file is a chart's with two
+// blocks exchanged.
 pub struct Pair {
     runner: Runner,
     model: Model,
@@ -53,7 +55,8 @@ pub fn new() -> Pair {
     }
 }
 
-// The ten bytes that the model points at in the file are those of the part that the first implementation returned.
+// The ten bytes that the model points at in the file are those of the part that the first
+// implementation returned.
 fn same_part(part: &[u8], file: &[u8], at: usize) -> bool {
     if at == 0 {
         return part.len() == 0;
@@ -163,7 +166,8 @@ impl Pair {
             .hold(byte(file, 4))
     }
 
-    // After a load of a file of an edition: the numbers of the chart held, and what the load is counted as.
+    // After a load of a file of an edition: the numbers of the chart held, and what the load is
+    // counted as.
     fn hold(mut self, edition: u32) -> Pair {
         let t = self.told;
         if t.kind == kinds::CHART {
@@ -193,7 +197,8 @@ impl Pair {
             .go_ahead(mode, limit)
     }
 
-    // After a begin: a copy of the model is advanced at once by its whole limit, which ends the run.
+    // After a begin: a copy of the model is advanced at once by its whole limit, which ends the
+    // run.
     fn go_ahead(mut self, mode: u32, limit: u32) -> Pair {
         let begun = self.told;
         if begun.kind != kinds::DONE {
@@ -226,8 +231,8 @@ impl Pair {
             .end()
     }
 
-    // After an advance: of a run that has ended the answer is compared at once, and counted by mode and kind. What the advance told stays the
-    // last told.
+    // After an advance: of a run that has ended the answer is compared at once, and counted by mode
+    // and kind. What the advance told stays the last told.
     fn end(self) -> Pair {
         let told = self.told;
         let mode = self.mode % 3;
@@ -286,7 +291,8 @@ impl Pair {
             .hold_rewritten(before)
     }
 
-    // After a rewriting: both hold one chart, its file loads, and it is counted where it is another than before.
+    // After a rewriting: both hold one chart, its file loads, and it is counted where it is another
+    // than before.
     fn hold_rewritten(self, before: Runner) -> Pair {
         let t = self.told;
         let chart = told::make(kinds::CHART, self.inputs as u64, self.boxes);
@@ -306,7 +312,8 @@ impl Pair {
         self.count(counts::CHANGED)
     }
 
-    // Write back into buffers filled with one byte. The part lent starts at `from`, below 40, and has `room` bytes, at most 2,600.
+    // Write back into buffers filled with one byte. The part lent starts at `from`, below 40, and
+    // has `room` bytes, at most 2,600.
     pub fn write_back(self, from: usize, room: usize, byte: u8) -> Pair {
         let start = from % 40;
         let end = start + room % 2601;
@@ -329,7 +336,8 @@ impl Pair {
         pair
     }
 
-    // A conversion into buffers filled with one byte, as for write back. What was written is converted back, to the file.
+    // A conversion into buffers filled with one byte, as for write back. What was written is
+    // converted back, to the file.
     pub fn convert(mut self, file: &[u8], from: usize, room: usize, filled: u8) -> Pair {
         let start = from % 40;
         let end = start + room % 2601;
@@ -362,7 +370,8 @@ impl Pair {
         }
     }
 
-    // How runs of a chart and of its rewritten one ended. `equal` says that the chart is rewritten to itself.
+    // How runs of a chart and of its rewritten one ended. `equal` says that the chart is rewritten
+    // to itself.
     pub fn beside(self, old: Encoded, new: Encoded, bare: bool, equal: bool) -> Pair {
         if !compare::may_end(old, new, bare, equal) {
             return self.differ(b"the rewritten chart", old, new);

@@ -5,7 +5,8 @@ use test_text::print::say;
 use test_text::text::piece;
 use told::Encoded;
 
-// What a call told, in the words of the run program: a line of `texts` for each kind, in the order of their numbers.
+// What a call told, in the words of the run program: a line of `texts` for each kind, in the order
+// of their numbers.
 fn print_told(t: Encoded) {
     let texts = b"done
 chart inputs % boxes %

@@ -1,4 +1,5 @@
-// The run program on lines of every kind: ill-formed, refused, longer than a read, and a last one without its newline.
+// The run program on lines of every kind: ill-formed, refused, longer than a read, and a last one
+// without its newline.
 fn main() {
     serve::run();
 }

@@ -90,7 +90,8 @@ pub fn begin(state: &mut u64, k: u32) -> Arguments {
     }
 }
 
-// The boxes of an advance, at times around the limit of the run, which a high-water run is to be advanced by at once.
+// The boxes of an advance, at times around the limit of the run, which a high-water run is to be
+// advanced by at once.
 pub fn amount(state: &mut u64, limit: u32) -> u32 {
     let kind = below(state, 12);
     match kind {

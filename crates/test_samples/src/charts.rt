@@ -1,5 +1,7 @@
-// Random charts that obey the rules: of both editions and all sizes, with loops, every kind of box, operation and comparison, and halts on many ways; often all boxes are alike in
-// both editions, and often there are many decisions between two copies, which the rewriter replaces, and near misses of such.
+// Random charts that obey the rules: of both editions and all sizes, with loops, every kind of box,
+// operation and comparison, and halts on many ways; often all boxes are alike in both editions, and
+// often there are many decisions between two copies, which the rewriter replaces, and near misses
+// of such.
 use crate::files;
 use crate::files::File;
 use crate::files::low;
@@ -8,7 +10,8 @@ use crate::random::below;
 use crate::random::one_in;
 ghost use Prim.Native.Nat.{_≤_, _<_};
 
-// A chart's numbers of inputs and of boxes, its edition, and a number below which its boxes are alike in both editions.
+// A chart's numbers of inputs and of boxes, its edition, and a number below which its boxes are
+// alike in both editions.
 pub struct Shape {
     pub inputs: u32,
     pub boxes: u32,
@@ -176,8 +179,9 @@ fn put_boxes(state: &mut u64, file: &mut File, shape: Shape) {
     }
 }
 
-// A next box of a fork, which is a decision and its two next boxes: a copy into a target, or by `kind` a near miss of one. A near miss has another target, next box or operation, or is
-// a decision or a choice, of comparison 1, where a copy has its operation.
+// A next box of a fork, which is a decision and its two next boxes: a copy into a target, or by
+// `kind` a near miss of one. A near miss has another target, next box or operation, or is a
+// decision or a choice, of comparison 1, where a copy has its operation.
 fn branch(state: &mut u64, shape: Shape, p: u32, target: u8, next: u8, kind: u32) -> [u8; 10] {
     let k = shape.inputs;
     let from = operand(state, k);
@@ -194,8 +198,9 @@ fn branch(state: &mut u64, shape: Shape, p: u32, target: u8, next: u8, kind: u32
     }
 }
 
-// Mostly a fork that the rewriter makes one box of. At times it goes back to its decision, to a halt, or to one box twice; its next boxes are near misses of one kind; or another
-// decision goes to them too. What is put later may fall on it.
+// Mostly a fork that the rewriter makes one box of. At times it goes back to its decision, to a
+// halt, or to one box twice; its next boxes are near misses of one kind; or another decision goes
+// to them too. What is put later may fall on it.
 fn put_fork(state: &mut u64, file: &mut File, shape: Shape, p: u32) {
     let n = shape.boxes;
     let one = next_box(state, n, p);
@@ -259,7 +264,8 @@ fn alike_below(state: &mut u64, n: u32) -> u32 {
     }
 }
 
-// A file that load accepts, at the front of a lent buffer; the rest of the buffer is 0 but for the checks of its blocks.
+// A file that load accepts, at the front of a lent buffer; the rest of the buffer is 0 but for the
+// checks of its blocks.
 pub fn make(state: &mut u64, file: &mut File) -> Shape {
     let n = boxes_number(state);
     let k = below(state, 17);

@@ -149,7 +149,8 @@ fn exchange_blocks(state: &mut u64, file: &mut File, shape: Shape) -> bool {
     true
 }
 
-// A file that was drawn: its length, and whether it is a chart's with two box blocks exchanged and nothing else changed.
+// A file that was drawn: its length, and whether it is a chart's with two box blocks exchanged and
+// nothing else changed.
 pub struct Drawn {
     pub length: usize,
     pub exchanged: bool,
@@ -162,7 +163,8 @@ fn of_length(length: usize) -> Drawn {
     }
 }
 
-// A change to the file of a chart, one time in four two; or two blocks exchanged, where it has them.
+// A change to the file of a chart, one time in four two; or two blocks exchanged, where it has
+// them.
 fn make(state: &mut u64, file: &mut File, shape: Shape) -> Drawn {
     let length = files::length_of(shape.boxes);
     if one_in(state, 8) {

@@ -1,4 +1,5 @@
-// Chart files in a lent buffer: bytes, places and checks. A byte past the end is not put, and reads as 0.
+// Chart files in a lent buffer: bytes, places and checks. A byte past the end is not put, and reads
+// as 0.
 ghost use Prim.Native.Nat.{_<_};
 
 // Room for the longest chart, and a block more.
@@ -84,8 +85,9 @@ pub fn clear(file: &mut File) {
     *file = [0; 3072];
 }
 
-// The weighted sum of the block that starts at a place. From the last byte down, a byte that is added to `some` is in it for each of the
-// (position + 1) turns that are left, so `all` gets it so many times.
+// The weighted sum of the block that starts at a place. From the last byte down, a byte that is
+// added to `some` is in it for each of the (position + 1) turns that are left, so `all` gets it so
+// many times.
 fn weighted(file: &File, start: usize) -> u32 {
     let mut some: u32 = 0;
     let mut all: u32 = 0;

@@ -1,4 +1,5 @@
-// Random numbers from a 64-bit state that each draw moves on: Marsaglia's xorshift with the shifts 13, 7 and 17.
+// Random numbers from a 64-bit state that each draw moves on: Marsaglia's xorshift with the shifts
+// 13, 7 and 17.
 ghost use Prim.Native.Nat.{_-_, _≤_};
 
 fn high(x: u64) -> u32 {

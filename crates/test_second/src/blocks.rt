@@ -44,14 +44,17 @@ pub fn constant(file: &[u8], number: u32) -> u32 {
     low + 65536 * high
 }
 
-// What a block's check takes for one more byte, after byte 509: the block's own number where byte 4 of
+// What a block's check takes for one more byte, after byte 509: the block's own number where byte 4
+// of
 // block 0 is 2, whatever the letters are, else 0.
 fn own_number(file: &[u8], block: u32) -> u32 {
     if byte(file, 4) == 2 { block } else { 0 }
 }
 
-// The sum over positions 0 to 510 of (position + 1) times byte, modulo 65,536, with `own_number` for
-// the byte at 510: it adds 511 times the block's number, or nothing. From the last byte down, `tail`
+// The sum over positions 0 to 510 of (position + 1) times byte, modulo 65,536, with `own_number`
+// for
+// the byte at 510: it adds 511 times the block's number, or nothing. From the last byte down,
+// `tail`
 // is added at each position, so the byte at position p is added p + 1 times.
 pub fn weighted(file: &[u8], block: u32) -> u32 {
     let mut tail = own_number(file, block);
@@ -94,7 +97,8 @@ fn sealed(bytes: [u8; 2560], block: usize) -> [u8; 2560]
     after
 }
 
-// The bytes of a chart file with the checks that they should have. All five blocks are sealed; those
+// The bytes of a chart file with the checks that they should have. All five blocks are sealed;
+// those
 // past the file's end are of no account.
 pub fn resealed(bytes: [u8; 2560]) -> [u8; 2560] {
     let mut after = bytes;

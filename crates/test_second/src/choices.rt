@@ -13,7 +13,8 @@ fn alike(file: &[u8], one: u32, other: u32, j: u32) -> bool {
     field(file, one, j) == field(file, other, j)
 }
 
-// Whether box `number` is a decision between two boxes that copy to one target and go on to one box.
+// Whether box `number` is a decision between two boxes that copy to one target and go on to one
+// box.
 fn may_choose(file: &[u8], number: u32) -> bool {
     let if_true = field(file, number, 5);
     let if_false = field(file, number, 6);
@@ -48,9 +49,12 @@ fn settled(bytes: [u8; 2560], number: u32) -> [u8; 2560] {
     after
 }
 
-// The bytes with every box settled, the checks apart. The boxes change in place, one after the other,
-// and each is still judged as on the old bytes: only a box of kind 2 changes, in its own turn, and it
-// is of kind 1 neither before nor after. So a box has its own bytes as they were when its turn comes,
+// The bytes with every box settled, the checks apart. The boxes change in place, one after the
+// other,
+// and each is still judged as on the old bytes: only a box of kind 2 changes, in its own turn, and
+// it
+// is of kind 1 neither before nor after. So a box has its own bytes as they were when its turn
+// comes,
 // and a next box of it copies then exactly if it copied at first, with the same bytes.
 pub fn rewritten(bytes: [u8; 2560]) -> [u8; 2560] {
     let mut after = bytes;

@@ -1,4 +1,5 @@
-// A second interpreter of charts, of edition 1 and of edition 2: it keeps the loaded file's bytes and
+// A second interpreter of charts, of edition 1 and of edition 2: it keeps the loaded file's bytes
+// and
 // reads each box out of them.
 // Every call is total: no argument and no model is excluded. None has an equation: what they answer
 // is compared with the runner's answers.
@@ -257,7 +258,8 @@ impl Model {
         }
     }
 
-    // Runs `m` boxes, or fewer where the run ends. A high-water run is advanced by its whole limit or
+    // Runs `m` boxes, or fewer where the run ends. A high-water run is advanced by its whole limit
+    // or
     // not at all, and tells no steps here: answer tells them with a value.
     pub fn advance(self, m: u32) -> Turn {
         let phase = self.phase;
@@ -342,7 +344,8 @@ pub fn show(file: &[u8], number: u32) -> usize {
     start(number)
 }
 
-// Puts the other edition's file of the same chart at the front of `buf`: 1 to 2, or 2 to 1. A box that
+// Puts the other edition's file of the same chart at the front of `buf`: 1 to 2, or 2 to 1. A box
+// that
 // the other edition has not, or takes otherwise, is told before a buffer that is too short.
 pub fn convert(file: &[u8], buf: &mut [u8]) -> Told {
     let verdict = judged(file);

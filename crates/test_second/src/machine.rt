@@ -8,9 +8,11 @@ use crate::numbers::result;
 use crate::rules::reads_left;
 use crate::rules::reads_right;
 
-// Word j of `marks` is about input j alone: its bit v is set where the set of variable v has input j.
+// Word j of `marks` is about input j alone: its bit v is set where the set of variable v has input
+// j.
 // `counter` is one set, bit j for input j. `phase` is 0 with no run, 1 under way, and the kind that
-// answer tells once the run has ended: 4 value, 5 notice, 6 spent. `carried` goes with the phase: the
+// answer tells once the run has ended: 4 value, 5 notice, 6 spent. `carried` goes with the phase:
+// the
 // value of 4, the set that 5 names, else 0. `steps` is the count of the boxes run, and 0 after a
 // high-water notice.
 pub struct Run {
@@ -170,7 +172,8 @@ fn decided(mut run: Run, file: &[u8]) -> Run {
     run
 }
 
-// A choice is an assignment that reads four variables: the two compared and the two that it may copy.
+// A choice is an assignment that reads four variables: the two compared and the two that it may
+// copy.
 // It ends no run and leaves the counter's set.
 fn chosen(mut run: Run, file: &[u8]) -> Run {
     let at = run.at;

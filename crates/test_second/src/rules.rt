@@ -139,7 +139,8 @@ fn decision_holds(file: &[u8], place: u32) -> bool {
     operand_holds(field(file, place, 3), k, true) & operand_holds(field(file, place, 4), k, true)
 }
 
-// A choice, which edition 2 alone has. It reads four variables, whichever of the last two it copies.
+// A choice, which edition 2 alone has. It reads four variables, whichever of the last two it
+// copies.
 fn choice_holds(file: &[u8], place: u32) -> bool {
     let target = field(file, place, 1);
     if (byte(file, 4) != 2) | (target < 16) | (31 < target) | (2 < field(file, place, 2)) {

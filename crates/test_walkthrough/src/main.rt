@@ -1,4 +1,5 @@
-// Follows the chart of docs/WALKTHROUGH.md from its file to its answers and back to a file, to a file of the other edition, and to a rewritten chart, and prints each stage.
+// Follows the chart of docs/WALKTHROUGH.md from its file to its answers and back to a file, to a
+// file of the other edition, and to a rewritten chart, and prints each stage.
 use runner::Runner;
 use told::Encoded;
 use told::kinds;
@@ -186,7 +187,8 @@ fn runs(runner: Runner) -> Runner {
     run(r, b"high-water", 2, 250)
 }
 
-// What write back left in a buffer: the file, the bytes past it, and the chart that the file loads as.
+// What write back left in a buffer: the file, the bytes past it, and the chart that the file loads
+// as.
 fn print_buffer(file: &[u8], buffer: &[u8; 1100]) {
     let all: &[u8] = buffer;
     let past = [170u8; 76];
@@ -243,7 +245,8 @@ fn with_constant(runner: Runner) -> [u8; 1024] {
     sealed(bytes)
 }
 
-// The file of edition 2 with two copies into 18 to which box 2 goes: of input 1 in box 3, and of 17 in box 7, which is new.
+// The file of edition 2 with two copies into 18 to which box 2 goes: of input 1 in box 3, and of 17
+// in box 7, which is new.
 fn with_copies(mut bytes: [u8; 1024]) -> [u8; 1024] {
     bytes[6] = 8;
     bytes[538] = 7;

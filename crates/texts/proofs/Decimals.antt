@@ -1,4 +1,5 @@
--- The fewest digits that hold a number are its decimal, and there are 1 to 20 of them. Assumes nothing.
+-- The fewest digits that hold a number are its decimal, and there are 1 to 20 of them. Assumes
+-- nothing.
 use Prim.Native.Nat.{ℕ, zero, suc, _+_, _*_, _-_, _/_, _%_, _^_, _≤_, _<_}
 use mathlib.Core.Path.{_≡_, refl, ap}
 use native.Mathlib.Nat.{pow-suc, one-le-pow, pow-le-pow-right}

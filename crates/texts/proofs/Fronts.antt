@@ -1,4 +1,5 @@
--- A text in a buffer with room or without (no-room, with-room), and so a clause, a sentence and a long sentence. Assumes nothing.
+-- A text in a buffer with room or without (no-room, with-room), and so a clause, a sentence and a
+-- long sentence. Assumes nothing.
 use Prim.Native.Nat.{ℕ, _+_, _-_, _≤_, _<_}
 use mathlib.Core.Path.{_≡_, refl, ap, sym, _∙_}
 use mathlib.Core.List.{List, [], _∷_, _++_}

@@ -1,4 +1,5 @@
--- What the run program prints: "the chart line (k and n), then a line per run". A text is a list of bytes that ends with a newline.
+-- What the run program prints: "the chart line (k and n), then a line per run". A text is a list of
+-- bytes that ends with a newline.
 use Prim.Native.Nat.{ℕ, zero, suc, _+_, _/_, _%_}
 use mathlib.Core.List.{List, [], _∷_, _++_}
 use mathlib.Core.Bool.{cond}
@@ -39,7 +40,8 @@ unfoldable pub valueText : ℕ → ℕ → List ℕ
 valueText value steps =
     longSentence (118 ∷ 97 ∷ 108 ∷ 117 ∷ 101 ∷ 32 ∷ []) value (32 ∷ 115 ∷ 116 ∷ 101 ∷ 112 ∷ 115 ∷ 32 ∷ []) steps
 
--- `notice steps `, ` inputs `. 02, a: "The run program prints the set as a decimal number after each notice".
+-- `notice steps `, ` inputs `. 02, a: "The run program prints the set as a decimal number after
+-- each notice".
 unfoldable pub noticeText : ℕ → ℕ → List ℕ
 noticeText steps named =
     longSentence
@@ -61,7 +63,8 @@ refusedText number detail =
     (32 ∷ 100 ∷ 101 ∷ 116 ∷ 97 ∷ 105 ∷ 108 ∷ 32 ∷ [])
     detail
 
--- A text at the front of a lent buffer, the bytes past it untouched; every text fits in 64 bytes, and a shorter buffer is left as it was.
+-- A text at the front of a lent buffer, the bytes past it untouched; every text fits in 64 bytes,
+-- and a shorter buffer is left as it was.
 unfoldable pub printed : List ℕ → List ℕ → List ℕ
 printed text out = cond (ltb (length out) 64) out (text ++ drop (length text) out)
 

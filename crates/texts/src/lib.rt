@@ -1,4 +1,5 @@
-// The texts that the run program prints, each at the front of a lent buffer; each answers how many bytes it put there.
+// The texts that the run program prints, each at the front of a lent buffer; each answers how many
+// bytes it put there.
 ghost use mathlib.Core.Path.{_≡_};
 ghost use mathlib.Core.List.{_++_};
 ghost use Prim.Native.Nat.{_+_, _≤_};

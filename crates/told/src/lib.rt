@@ -1,4 +1,5 @@
-// What the runner's calls and the converter tell, as three numbers: for callers in other languages, and for tests.
+// What the runner's calls and the converter tell, as three numbers: for callers in other languages,
+// and for tests.
 pub mod kinds;
 
 use calls::Verdict;
@@ -84,7 +85,8 @@ pub fn of_written(told: Written) -> Encoded
     }
 }
 
-// The claim of this crate. A claim counts where a contract holds it: without this function the theorem could be deleted, and nothing would fail.
+// The claim of this crate. A claim counts where a contract holds it: without this function the
+// theorem could be deleted, and nothing would fail.
 pub fn promised()
     ensures { λ _. ⌜ EncodesOnce ⌝ }
 {}

@@ -1,5 +1,5 @@
--- Two unfinished lines whose first 256 bytes are the same are answered alike, whatever follows: so that is enough to keep. `counted` are answers as the program
--- counts lines. Assumes nothing.
+-- Two unfinished lines whose first 256 bytes are the same are answered alike, whatever follows: so
+-- that is enough to keep. `counted` are answers as the program counts lines. Assumes nothing.
 use Prim.Native.Nat.{ℕ, zero, suc, _+_, _^_, _%_, _<_}
 use mathlib.Core.Path.{_≡_, refl, ap, sym, _∙_}
 use mathlib.Core.List.{List, [], _∷_, _++_}

@@ -1,5 +1,7 @@
--- The loops of the code, on lists. Feeding: the texts so far stand at the front of the buffer, and the lines of what is left make the rest of the portion
--- (Feeds). Keeping: what was moved stands at the front (Keeps). And the ends of a buffer's part, which are at most its length. Assumes nothing.
+-- The loops of the code, on lists. Feeding: the texts so far stand at the front of the buffer, and
+-- the lines of what is left make the rest of the portion (Feeds). Keeping: what was moved stands at
+-- the front (Keeps). And the ends of a buffer's part, which are at most its length. Assumes
+-- nothing.
 use Prim.Native.Nat.{ℕ, zero, suc, _+_, _-_, _≤_, _<_, min}
 use mathlib.Core.Path.{_≡_, refl, ap, sym, _∙_, subst}
 use mathlib.Core.List.{List, [], _∷_, _++_, append-assoc, append-nil}

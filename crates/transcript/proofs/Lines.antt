@@ -1,5 +1,6 @@
--- Laws of the lines of some bytes, for lines that may lack their newline and for those that may not: the first line, by the place of the first newline
--- (first-line, last-line) and by what is known of the lines (peel), with bytes that come later. Assumes nothing.
+-- Laws of the lines of some bytes, for lines that may lack their newline and for those that may
+-- not: the first line, by the place of the first newline (first-line, last-line) and by what is
+-- known of the lines (peel), with bytes that come later. Assumes nothing.
 use Prim.Native.Nat.{ℕ, suc, _≤_, _<_}
 use mathlib.Core.Path.{_≡_, refl, ap, sym, _∙_}
 use mathlib.Core.List.{List, [], _∷_, _++_}
@@ -72,7 +73,8 @@ no-bytes (b ∷ bytes) e = by (eqb b 10) (linesIn true bytes) e
     by false [] q = clash cc
     by false (line ∷ lines) q = clash cc
 
--- The first line of some bytes is that of them and of what comes later, and leaves the bytes after it.
+-- The first line of some bytes is that of them and of what comes later, and leaves the bytes after
+-- it.
 pub peel : (over e : Bool) (bytes more line : List ℕ) (lines : List (List ℕ)) → Later over e more → linesIn over bytes ≡ line ∷ lines
     → linesIn e (bytes ++ more) ≡ line ∷ linesIn e (drop (suc (length line)) bytes ++ more)
 unfolding linesIn begun

@@ -1,4 +1,5 @@
--- What a portion of the lines of some bytes leaves: it and what is left are answered as all of them, with what comes later. Assumes nothing.
+-- What a portion of the lines of some bytes leaves: it and what is left are answered as all of
+-- them, with what comes later. Assumes nothing.
 use Prim.Native.Nat.{ℕ, suc, _-_, _≤_, _<_}
 use mathlib.Core.Path.{_≡_, refl, ap, sym, _∙_}
 use mathlib.Core.List.{List, [], _∷_, _++_, append-assoc, append-nil}

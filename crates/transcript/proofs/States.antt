@@ -1,4 +1,5 @@
--- The state that a session stands for, where the ends of a buffer's part are kept within the buffer: after a read, and after a turn. Assumes nothing.
+-- The state that a session stands for, where the ends of a buffer's part are kept within the
+-- buffer: after a read, and after a turn. Assumes nothing.
 use Prim.Native.Nat.{ℕ, _+_, _-_, _≤_, _<_, min}
 use mathlib.Core.Path.{_≡_, refl, ap, sym, _∙_}
 use mathlib.Core.List.{List, [], _∷_, _++_}

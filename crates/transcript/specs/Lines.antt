@@ -1,10 +1,12 @@
--- The lines of an input: "then a newline (the last may lack it)"; "nothing after the last newline is no line". A newline is byte 10.
+-- The lines of an input: "then a newline (the last may lack it)"; "nothing after the last newline
+-- is no line". A newline is byte 10.
 use Prim.Native.Nat.{ℕ}
 use mathlib.Core.List.{List, [], _∷_}
 use mathlib.Core.Bool.{Bool, true, false, cond}
 use lib.Dec.{eqb}
 
--- A byte before the lines after it: the first of them goes on with it. Where there is none, it is the last line, if that may lack its newline.
+-- A byte before the lines after it: the first of them goes on with it. Where there is none, it is
+-- the last line, if that may lack its newline.
 unfoldable pub begun : (lacking : Bool) → ℕ → List (List ℕ) → List (List ℕ)
 begun true b [] = (b ∷ []) ∷ []
 begun false b [] = []

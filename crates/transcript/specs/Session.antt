@@ -1,4 +1,5 @@
--- The run program between its reads and writes. A session goes by turns: each wants a text written, more input read, or to stop.
+-- The run program between its reads and writes. A session goes by turns: each wants a text written,
+-- more input read, or to stop.
 use Prim.Native.Nat.{ℕ, suc, _+_, _-_, _%_, _^_, min}
 use mathlib.Core.List.{List, [], _∷_, _++_}
 use mathlib.Core.Bool.{Bool, true, false, cond}
@@ -37,15 +38,17 @@ portion r room count (line ∷ lines) =
     let text = respond r (following count) line in
     cond (ltb room 64) (none count) (onto line text (portion r (room - length text) (following count) lines))
 
--- What `feed` does with the lines that can be answered: those that have ended and, where the input is over, the last one. And what it tells of that: the
--- last line is counted with a newline that it may lack.
+-- What `feed` does with the lines that can be answered: those that have ended and, where the input
+-- is over, the last one. And what it tells of that: the last line is counted with a newline that it
+-- may lack.
 abbrev pub feed : Runner → (room count : ℕ) → (over : Bool) → List ℕ → Portion
 feed r room count over bytes = portion r room count (linesIn over bytes)
 
 abbrev pub fedOf : Portion → (bytes : ℕ) → Fed
 fedOf p bytes = record { count = p .count; taken = min (p .taken) bytes; length = length (p .text) }
 
--- Where a session stands: the number of lines answered, the bytes at hand, and whether the input is over.
+-- Where a session stands: the number of lines answered, the bytes at hand, and whether the input is
+-- over.
 pub record State : Type 0 where
   pub count : ℕ
   pub bytes : List ℕ
@@ -56,7 +59,8 @@ pub data Turn : Type 0 where
   read : State → Turn
   stop : Turn
 
--- What is kept of a line that has not ended: "at most 255 bytes" makes a line of 256 ill-formed whatever follows.
+-- What is kept of a line that has not ended: "at most 255 bytes" makes a line of 256 ill-formed
+-- whatever follows.
 abbrev pub kept : List ℕ → List ℕ
 kept bytes = take 256 bytes
 
@@ -67,7 +71,8 @@ turn r room s =
     cond (ltb 0 (p .taken)) (write (p .text) (record { count = p .count; bytes = drop (p .taken) (s .bytes); over = s .over }))
     (cond (s .over) stop (read (record { count = s .count; bytes = kept (s .bytes); over = false })))
 
--- After a read: more bytes are at hand; no byte is the end of the input; and after a read that failed there is nothing to answer.
+-- After a read: more bytes are at hand; no byte is the end of the input; and after a read that
+-- failed there is nothing to answer.
 unfoldable pub received : List ℕ → State → State
 received [] s = record { count = s .count; bytes = s .bytes; over = true }
 received (b ∷ piece) s = record { count = s .count; bytes = s .bytes ++ b ∷ piece; over = s .over }
@@ -87,7 +92,8 @@ wantedOf wanted.Stop text s = stop
 abbrev pub turnOf : Turned → (buffer out : List ℕ) → Turn
 turnOf t buffer out = wantedOf (t .wanted) (take (t .length) out) (stateOf (t .session) buffer)
 
--- What the code makes of the answer of a read, which put its bytes behind those at hand: a count of them, or a number below 0 where it failed.
+-- What the code makes of the answer of a read, which put its bytes behind those at hand: a count of
+-- them, or a number below 0 where it failed.
 unfoldable pub readBy : ℤ → (behind : List ℕ) → State → State
 readBy (pos count) behind s = received (take count behind) s
 readBy (negsuc count) behind s = failed s

@@ -11,8 +11,8 @@ use Rattle.transcript.specs.Lines.{linesOf}
 abbrev pub readOfFile : ℕ
 readOfFile = 2561
 
--- The answers to lines, by a runner that holds a chart, after so many lines: "line number from 1"; "A refused line prints its refusal, and the next line is
--- read."
+-- The answers to lines, by a runner that holds a chart, after so many lines: "line number from 1";
+-- "A refused line prints its refusal, and the next line is read."
 unfoldable pub answers : Runner → (count : ℕ) → List (List ℕ) → List ℕ
 answers r count [] = []
 answers r count (line ∷ lines) = respond r (count + 1) line ++ answers r (count + 1) lines

@@ -1,5 +1,6 @@
-// The run program between its reads and its writes: lines answered into a buffer until it has no room, what is kept of a line that has not ended, and the
-// turns of a session, which wants something written or read until it stops.
+// The run program between its reads and its writes: lines answered into a buffer until it has no
+// room, what is kept of a line that has not ended, and the turns of a session, which wants
+// something written or read until it stops.
 use runner::Runner;
 ghost use mathlib.Core.Path.{_≡_};
 ghost use mathlib.Core.List.{_++_};
@@ -15,8 +16,8 @@ pub struct Fed {
     pub length: usize,
 }
 
-// Where a session stands: the number of lines answered, the bytes at hand, which are those of the input's buffer from `at` to `end`, and whether the input is
-// over.
+// Where a session stands: the number of lines answered, the bytes at hand, which are those of the
+// input's buffer from `at` to `end`, and whether the input is over.
 pub struct Session {
     pub count: u64,
     pub at: usize,
@@ -43,8 +44,8 @@ fn lesser(a: usize, b: usize) -> usize
     if a < b { a } else { b }
 }
 
-// Answers the lines that end in the input and, where the input is over, its last line, at the front of a buffer, until none is left or the room is short of
-// a text.
+// Answers the lines that end in the input and, where the input is over, its last line, at the front
+// of a buffer, until none is left or the room is short of a text.
 pub fn feed(runner: Runner, lines: u64, over: bool, input: &[u8], out: &mut [u8]) -> Fed
     ensures { λ r. ⌜ r ≡ fedOf (feed runner (length (now (out .entry))) lines over (now (input .entry))) (length (now (input .entry))) ⌝ }
     ensures { λ r. ⌜ now (out .exit) ≡ feed runner (length (now (out .entry))) lines over (now (input .entry)) .text ++ drop (r .length) (now (out .entry)) ⌝ }
@@ -74,7 +75,8 @@ pub fn feed(runner: Runner, lines: u64, over: bool, input: &[u8], out: &mut [u8]
     }
 }
 
-// Moves a line that has not ended, the bytes from `at` to `end`, to the front of a buffer, 256 of them at most, and answers how many.
+// Moves a line that has not ended, the bytes from `at` to `end`, to the front of a buffer, 256 of
+// them at most, and answers how many.
 pub fn keep(at: usize, end: usize, buffer: &mut [u8]) -> usize
     ensures { λ r. ⌜ r ≡ length (kept (drop at (take end (now (buffer .entry))))) ⌝ }
     ensures { λ r. ⌜ now (buffer .exit) ≡ kept (drop at (take end (now (buffer .entry)))) ++ drop r (now (buffer .entry)) ⌝ }

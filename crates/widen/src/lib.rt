@@ -1,4 +1,5 @@
-// A byte as a wider number. Each contract tells the caller the byte's range, which a cast in place would leave to be shown there.
+// A byte as a wider number. Each contract tells the caller the byte's range, which a cast in place
+// would leave to be shown there.
 ghost use mathlib.Core.Path.{_≡_};
 ghost use Prim.Native.Nat.{_<_};
 

@@ -1,4 +1,5 @@
--- `withheld_mark` tests bit j, as its definition does; 1 shifted by fewer places than 16 is a power of 2.
+-- `withheld_mark` tests bit j, as its definition does; 1 shifted by fewer places than 16 is a power
+-- of 2.
 use Prim.Native.Nat.{_*_, _/_, _%_, _^_}
 use mathlib.Core.Path.{_≡_, _∙_}
 use native.Mathlib.Nat.{one-mul}

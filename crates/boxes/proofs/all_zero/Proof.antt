@@ -1,4 +1,5 @@
--- `all_zero` goes up the bytes: those before i are all 0 and so are those from i on, exactly where all bytes are.
+-- `all_zero` goes up the bytes: those before i are all 0 and so are those from i on, exactly where
+-- all bytes are.
 use Prim.Native.Nat.{_≤_, _-_}
 use mathlib.Core.Path.{_≡_, refl}
 use mathlib.Core.Bool.{_&&_}

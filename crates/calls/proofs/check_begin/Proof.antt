@@ -1,5 +1,5 @@
--- `check_begin` tests in the definition's order: each place of the code knows which rules have been kept, and each return cites what `check` tells
--- there.
+-- `check_begin` tests in the definition's order: each place of the code knows which rules have been
+-- kept, and each return cites what `check` tells there.
 use mathlib.Core.Path.{_≡_, sym, _∙_}
 use native.Mathlib.Omega.{arith}
 use lib.ListN.{length}

@@ -1,4 +1,5 @@
--- `table_of` joins the blocks of boxes: those before j stand at the front, and the rest of the table is zero.
+-- `table_of` joins the blocks of boxes: those before j stand at the front, and the rest of the
+-- table is zero.
 use Prim.Native.Nat.{ℕ, _+_, _*_, _-_, _≤_}
 use mathlib.Core.Path.{_≡_, ap, _∙_}
 use mathlib.Core.List.{List, _++_}

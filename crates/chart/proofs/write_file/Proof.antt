@@ -1,4 +1,5 @@
--- `write_file` joins the blocks: those before j stand at the front, and the rest of the buffer is as it was.
+-- `write_file` joins the blocks: those before j stand at the front, and the rest of the buffer is
+-- as it was.
 use Prim.Native.Nat.{ℕ, _+_, _*_, _-_, _≤_}
 use mathlib.Core.Path.{_≡_, ap, _∙_}
 use mathlib.Core.List.{List, _++_}

@@ -1,4 +1,5 @@
--- `write_nth` writes the header as block 0, and as block j the 51 boxes that the definition names, sealed by what block j adds.
+-- `write_nth` writes the header as block 0, and as block j the 51 boxes that the definition names,
+-- sealed by what block j adds.
 use Prim.Native.Nat.{_*_, _-_}
 use mathlib.Core.Path.{_∙_}
 use denote.Ref.{now}

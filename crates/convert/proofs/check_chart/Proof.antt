@@ -1,4 +1,5 @@
--- `check_chart` asks for the first box that is not taken, then for room; each return cites what is answered there.
+-- `check_chart` asks for the first box that is not taken, then for room; each return cites what is
+-- answered there.
 use Prim.Native.Nat.{ℕ}
 use mathlib.Core.Path.{_≡_, ap, _∙_}
 use native.Mathlib.Omega.{arith}

@@ -1,4 +1,5 @@
--- `box_at` branches where the definition does; each byte of the box is read where the definition reads it, and the number of the next box before the kind is asked for.
+-- `box_at` branches where the definition does; each byte of the box is read where the definition
+-- reads it, and the number of the next box before the kind is asked for.
 use native.Mathlib.Omega.{arith}
 use Rattle.decode.proofs.Decoded.{assign-at, decide-at, choose-at, halt-at, from-past}
 use borrow.Author.Needs.{needs}

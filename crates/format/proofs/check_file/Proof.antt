@@ -1,5 +1,5 @@
--- `check_file` tests in the definition's order: each place of the code knows which checks the file has passed, and each return cites what
--- checkFile tells there.
+-- `check_file` tests in the definition's order: each place of the code knows which checks the file
+-- has passed, and each return cites what checkFile tells there.
 use Prim.Native.Nat.{ℕ, _≤_}
 use mathlib.Core.Path.{_≡_, ap, sym, _∙_}
 use mathlib.Core.Bool.{true}

@@ -1,4 +1,5 @@
--- Each arm of `operate` is an operation by its number; past 10, where trailing zeros are counted, it asks whether the right operand is read.
+-- Each arm of `operate` is an operation by its number; past 10, where trailing zeros are counted,
+-- it asks whether the right operand is read.
 use mathlib.Core.Path.{refl, sym, _∙_}
 use native.Mathlib.Omega.{arith}
 use borrow.Author.Needs.{needs}

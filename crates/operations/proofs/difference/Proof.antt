@@ -1,4 +1,5 @@
--- `difference` branches where the definition does: on the edition, and in edition 2 on whether right exceeds left.
+-- `difference` branches where the definition does: on the edition, and in edition 2 on whether
+-- right exceeds left.
 use native.Mathlib.Omega.{arith}
 use borrow.Author.Needs.{needs}
 use borrow.Author.Tests.{eq-eqb, ne-eqb, lt-ltb, le-ltb}

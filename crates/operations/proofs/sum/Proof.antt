@@ -1,5 +1,5 @@
--- `sum` branches where the definition does: on the edition, and in edition 2 on whether the true sum is larger than the greatest number, for then it wraps below an
--- operand.
+-- `sum` branches where the definition does: on the edition, and in edition 2 on whether the true
+-- sum is larger than the greatest number, for then it wraps below an operand.
 use Prim.Native.Nat.{_+_}
 use native.Mathlib.Omega.{arith}
 use borrow.Author.Needs.{needs}

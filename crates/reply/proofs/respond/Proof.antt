@@ -1,4 +1,5 @@
--- `respond` parses the line, begins, runs to the end and prints the answer; or prints what is refused.
+-- `respond` parses the line, begins, runs to the end and prints the answer; or prints what is
+-- refused.
 use Prim.Native.Nat.{_≤_}
 use mathlib.Core.Path.{_≡_, ap, sym, subst, _∙_}
 use native.Mathlib.Omega.{arith}

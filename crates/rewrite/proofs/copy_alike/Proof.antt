@@ -1,4 +1,5 @@
--- `copy_alike` reads the bytes by which two boxes copy alike; a number past the places is of no copy.
+-- `copy_alike` reads the bytes by which two boxes copy alike; a number past the places is of no
+-- copy.
 use borrow.Author.Needs.{needs}
 use denote.Ref.{now}
 use Rattle.rewrite.proofs.Copies.{first-past, second-past, alike-bytes}

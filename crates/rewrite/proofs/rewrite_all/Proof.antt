@@ -1,4 +1,5 @@
--- `rewrite_all` rewrites from the front: the new boxes before p stand there, and the rest of the table is the old one.
+-- `rewrite_all` rewrites from the front: the new boxes before p stand there, and the rest of the
+-- table is the old one.
 use Prim.Native.Nat.{ℕ, _+_, _*_, _-_, _≤_}
 use mathlib.Core.Path.{_≡_, ap, _∙_}
 use mathlib.Core.List.{List, _++_}

@@ -1,4 +1,5 @@
--- `test_second::copied` is safe and ends. The length of `out` stays. The measure is how many bytes are left.
+-- `test_second::copied` is safe and ends. The length of `out` stays. The measure is how many bytes
+-- are left.
 -- Assumes nothing.
 use mathlib.Core.Path.{_≡_}
 use Prim.Native.Nat.{_-_}

@@ -1,4 +1,5 @@
--- `checksum` goes up the bytes: the sum so far, which starts at what is added, and the terms still to come are the whole sum, modulo 65,536.
+-- `checksum` goes up the bytes: the sum so far, which starts at what is added, and the terms still
+-- to come are the whole sum, modulo 65,536.
 use Prim.Native.Nat.{_+_, _-_, _%_, _≤_, _<_, min}
 use mathlib.Core.Path.{_≡_}
 use native.Mathlib.Omega.{arith}

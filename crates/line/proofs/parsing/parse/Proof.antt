@@ -1,4 +1,5 @@
--- `parse` keeps what `Holds` says at each byte, and each return cites what the line is read as there.
+-- `parse` keeps what `Holds` says at each byte, and each return cites what the line is read as
+-- there.
 use Prim.Native.Nat.{_-_}
 use mathlib.Core.Path.{_∙_}
 use mathlib.Core.Logic.{⊎-elim}

@@ -1,6 +1,7 @@
--- The loop's invariant: the boxes still to run, from here, come to what the boxes asked for come to from the start; the runner differs from the one
--- at the start in what boxes store alone, no ending is met, the numbers are those of the mode, the box at hand is found by `half`, and the marks are of 16 inputs.
--- Where the arms of a box that does not end the run meet, one law says what it left.
+-- The loop's invariant: the boxes still to run, from here, come to what the boxes asked for come to
+-- from the start; the runner differs from the one at the start in what boxes store alone, no ending
+-- is met, the numbers are those of the mode, the box at hand is found by `half`, and the marks are
+-- of 16 inputs. Where the arms of a box that does not end the run meet, one law says what it left.
 use mathlib.Core.Path.{_≡_, refl, ap, sym, _∙_, subst}
 use mathlib.Core.Logic.{⊎-elim, inl}
 use Prim.Native.Nat.{_+_, _≤_, _<_, _^_}
@@ -66,7 +67,8 @@ meets c =
     ))
     (c .match .came)
 
--- Where the loop is left: no box is to run, a halt gives a value, a decision or a halt a notice, or the limit is reached.
+-- Where the loop is left: no box is to run, a halt gives a value, a decision or a halt a notice, or
+-- the limit is reached.
 over : (c : tie.Left-loop Inv-loop μ-loop) → let q = c .loop-test in let a = c .before .before .before .before .before .before .before .before .before .before .args in
     CameTo (flowIn (a .t1)) (c .before .before .before .amount .result) (runIn (a .t1)) (q .self) (q .at) (q .end) (q .value) (q .named) (q .steps) × Stored (a .t1) (q .self)
 unfolding settle

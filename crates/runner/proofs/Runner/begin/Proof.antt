@@ -1,4 +1,5 @@
--- The verdict is that of the rules of begin; a mode and a limit that they let pass fit their fields.
+-- The verdict is that of the rules of begin; a mode and a limit that they let pass fit their
+-- fields.
 use mathlib.Core.Path.{_≡_, ap, sym, _∙_}
 use denote.Ref.{now}
 use borrow.Author.Needs.{needs}

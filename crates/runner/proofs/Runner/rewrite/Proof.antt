@@ -1,4 +1,5 @@
--- The verdict is that of the rules of the rewriter; where it is done, the table is rewritten in its own place and nothing of a run is held.
+-- The verdict is that of the rules of the rewriter; where it is done, the table is rewritten in its
+-- own place and nothing of a run is held.
 use mathlib.Core.Path.{ap, sym, _∙_}
 use borrow.Author.Needs.{needs}
 use Rattle.calls.specs.Calls.{rewrite, check}

@@ -1,4 +1,5 @@
--- `test_second::numbers::leading_zeros` is safe and ends. The measure is what is left of the number.
+-- `test_second::numbers::leading_zeros` is safe and ends. The measure is what is left of the
+-- number.
 -- Assumes nothing.
 use borrow.Author.Needs.{needs}
 use Rattle.test_second.proofs.numbers.leading_zeros.Statement.{statement}

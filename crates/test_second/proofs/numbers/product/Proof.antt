@@ -1,4 +1,5 @@
--- `test_second::numbers::product` is safe and ends. The measure is what is left of the right number.
+-- `test_second::numbers::product` is safe and ends. The measure is what is left of the right
+-- number.
 -- Assumes nothing.
 use borrow.Author.Needs.{needs}
 use Rattle.test_second.proofs.numbers.product.Statement.{statement}

@@ -1,4 +1,5 @@
--- `test_second::numbers::trailing_zeros` is safe and ends. The measure is how many positions are left.
+-- `test_second::numbers::trailing_zeros` is safe and ends. The measure is how many positions are
+-- left.
 -- Assumes nothing.
 use Prim.Native.Nat.{_-_}
 use borrow.Author.Needs.{needs}
