@@ -2,7 +2,7 @@
 // has one caller, as in a program, and is compiled into it. They have no equation: the benchmark
 // compares their sums with those of plain Rust.
 use bench_rounds::fold_told;
-use bench_rounds::loaded;
+use bench_rounds::holding;
 
 // Health checks: begin, advance to the end, answer. Input 0 is one more each round. Of more than 32
 // inputs, which no chart has, there are no rounds.
@@ -20,7 +20,7 @@ pub extern "C" fn flow_checks(
         return 0;
     }
     let mut numbers = begin::first_vars(inputs);
-    let mut runner = loaded(file);
+    let mut runner = holding(file);
     let mut sum: u64 = 0;
     let mut left = rounds;
     while 0 < left {
@@ -31,7 +31,7 @@ pub extern "C" fn flow_checks(
         let started = begun.runner;
         let advanced = started.advance(65535);
         runner = advanced.runner;
-        sum = fold_told(sum, told::of_answer(runner.answer()));
+        sum = fold_told(sum, encoding::of_answer(runner.answer()));
     }
     sum
 }

@@ -1,7 +1,7 @@
 // For the benchmark, to be timed: many rounds of one call; what each tells is folded into a sum.
 // The functions have no equations: the benchmark compares the sums with those of plain Rust.
 use runner::Runner;
-use told::Encoded;
+use encoding::Encoded;
 ghost use Prim.Native.Nat.{_≤_};
 
 fn fold(sum: u64, word: u64) -> u64 {
@@ -30,7 +30,7 @@ fn take_byte(bytes: &mut [u8], at: usize) -> u64 {
     0
 }
 
-pub fn loaded(file: &[u8]) -> Runner {
+pub fn holding(file: &[u8]) -> Runner {
     let loading = Runner::new().load(file);
     loading.runner
 }
@@ -54,7 +54,7 @@ pub extern "C" fn flow_loads(files: &[u8], rounds: u32) -> u64 {
         let loading = runner.load(&files[start..end]);
         let told = loading.told;
         runner = loading.runner;
-        sum = fold_told(sum, told::of_load(told));
+        sum = fold_told(sum, encoding::of_load(told));
         i += 1;
     }
     sum
@@ -63,11 +63,11 @@ pub extern "C" fn flow_loads(files: &[u8], rounds: u32) -> u64 {
 // Write backs of one chart; of each, one byte of the buffer is folded and changed.
 #[no_mangle]
 pub extern "C" fn flow_writes(file: &[u8], buf: &mut [u8], rounds: u32) -> u64 {
-    let runner = loaded(file);
+    let runner = holding(file);
     let mut sum: u64 = 0;
     let mut i: u32 = 0;
     while i < rounds {
-        sum = fold_told(sum, told::of_written(runner.write_back(buf)));
+        sum = fold_told(sum, encoding::of_written(runner.write_back(buf)));
         sum = fold(sum, take_byte(buf, (i % 2048) as usize));
         i += 1;
     }
@@ -80,7 +80,7 @@ pub extern "C" fn flow_converts(file: &[u8], buf: &mut [u8], rounds: u32) -> u64
     let mut sum: u64 = 0;
     let mut i: u32 = 0;
     while i < rounds {
-        sum = fold_told(sum, told::of_written(convert::convert(file, buf)));
+        sum = fold_told(sum, encoding::of_written(convert::convert(file, buf)));
         sum = fold(sum, take_byte(buf, (i % 2048) as usize));
         i += 1;
     }
@@ -98,8 +98,8 @@ fn either(first: bool, one: Runner, other: Runner) -> Runner {
 pub extern "C" fn flow_rewrites(files: &[u8], buf: &mut [u8], rounds: u32) -> u64 {
     let half = files.len() / 2;
     let end = half + half;
-    let one = loaded(&files[..half]);
-    let other = loaded(&files[half..end]);
+    let one = holding(&files[..half]);
+    let other = holding(&files[half..end]);
     let mut runner = Runner::new();
     let mut sum: u64 = 0;
     let mut i: u32 = 0;
@@ -110,9 +110,9 @@ pub extern "C" fn flow_rewrites(files: &[u8], buf: &mut [u8], rounds: u32) -> u6
         let rewritten = chart.rewrite();
         let told = rewritten.told;
         runner = rewritten.runner;
-        sum = fold_told(sum, told::of_verdict(told));
+        sum = fold_told(sum, encoding::of_verdict(told));
     }
-    sum = fold_told(sum, told::of_written(runner.write_back(buf)));
+    sum = fold_told(sum, encoding::of_written(runner.write_back(buf)));
     fold_byte(sum, buf, 1022)
 }
 

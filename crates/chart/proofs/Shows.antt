@@ -9,12 +9,12 @@ use Rattle.format.specs.File.{placeStart, checkFile}
 use Rattle.format.specs.declared.Header.{Header}
 use Rattle.format.specs.declared.Refusal.{Refusal}
 use Rattle.format.specs.declared.Checked.the-variants.{Accepted, Refused}
-use Rattle.format.proofs.Accepted.{accepted}
+use Rattle.format.proofs.Passes.{passes}
 use Rattle.chart.specs.ShowBox.{shownBy, showBox}
 
 module _ (f : List ℕ) (p : ℕ) (h : Header) (e : checkFile f ≡ Accepted h) where
   pub shown-within : p < h .boxes → placeStart p + 10 ≤ length f
-  shown-within l = let a = accepted f h e in omega (arith, a .long, a .fits)
+  shown-within l = let a = passes f h e in omega (arith, a .long, a .fits)
 
   pub shows-box : p < h .boxes → showBox f p ≡ record { start = placeStart p; size = 10 }
   unfolding shownBy

@@ -8,7 +8,7 @@ use mathlib.Core.Logic.{_≢_, ⊎-elim}
 use native.Mathlib.Omega.{arith}
 use Rattle.boxes.specs.Bytes.{at}
 use Rattle.format.specs.declared.Header.{Header}
-use Rattle.format.proofs.Accepted.{accepted}
+use Rattle.format.proofs.Passes.{passes}
 use Rattle.chart_claims.specs.Claims.{HeaderInRange, BoxInRange, assignment, decision, halt, choice}
 use Rattle.chart_claims.specs.Bounds.{ExactRoom, LastBoxShown, EndsExchanged, HeaderBounds, BoxBounds, LoadsWithinBounds}
 use Rattle.chart_claims.proofs.RoundTrip.{reproduces-file}
@@ -56,7 +56,7 @@ last-box-shown f h p e l = shows-the-box f h p e (omega arith) .1
 
 pub ends-exchanged : EndsExchanged
 ends-exchanged f h j e two last other =
-    let a = accepted f h e in
+    let a = passes f h e in
     exchange-refused f h 1 j e two (omega arith) (omega (arith, a .long, a .some)) (omega arith)
 
 pub loads-within-bounds : LoadsWithinBounds

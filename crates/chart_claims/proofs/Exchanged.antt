@@ -20,14 +20,14 @@ use Rattle.format.specs.declared.Checked.the-variants.{Accepted, Refused}
 use Rattle.format.proofs.Search.{first-is}
 use Rattle.format.proofs.Seals.{sealed-once}
 use Rattle.format.proofs.Checks.{tells-check}
-use Rattle.format.proofs.Accepted as checked
+use Rattle.format.proofs.Passes as checked
 use Rattle.chart.proofs.Lists.{length-part}
 use Rattle.chart.proofs.Joined.{Sized, joined-length, joined-piece}
 use Rattle.chart_claims.specs.Exchanged.{rearranged, inPlaceOf, ExchangeRefused, OutOfOrderRefused, OthersAddNothing}
 
 module _ (f : List ℕ) (h : Header) (e : checkFile f ≡ Accepted h) (two : h .edition ≡ 2) where
-  facts : checked.Accepted f h
-  facts = checked.accepted f h e
+  facts : checked.Passes f h
+  facts = checked.passes f h e
 
   few : blocksOf f ≤ 5
   few = let a = facts in omega (arith, a .long, a .fits)

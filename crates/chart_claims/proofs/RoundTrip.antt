@@ -18,7 +18,7 @@ use Rattle.format.specs.declared.Checked.the-variants as checked
 use Rattle.format.proofs.Sums.{check-front}
 use Rattle.format.proofs.Seals.{sealed-bytes}
 use Rattle.boxes.proofs.Zeros.{zeros-are}
-use Rattle.format.proofs.Accepted.{Accepted, accepted}
+use Rattle.format.proofs.Passes.{Passes, passes}
 use Rattle.format.proofs.Ranges.{in-range}
 use Rattle.chart.specs.Chart.{joined, boxBlocks, boxesOf, tableOf, headerBody, bodyOf, sealedBlock, fileOf}
 use Rattle.chart.specs.WriteBack.{fileLength, hasRoom, withFile, putFile}
@@ -48,7 +48,7 @@ eight f l =
     first : (i n : ℕ) {r : List ℕ} → i < length f → take n (drop (suc i) f) ≡ r → take (suc n) (drop i f) ≡ at f i ∷ r
     first i n h e = ap (take (suc n)) (drop-cons f i 0 h) ∙ ap (λ (t : List ℕ). at f i ∷ t) e
 
-header-again : (f : List ℕ) (h : Header) → Accepted f h → 512 ≤ length f → headerBody h ≡ take 510 (blockOf f 0)
+header-again : (f : List ℕ) (h : Header) → Passes f h → 512 ≤ length f → headerBody h ≡ take 510 (blockOf f 0)
 unfolding headerBody
 header-again f h a l =
     let p = a .letters in
@@ -57,8 +57,8 @@ header-again f h a l =
     rw (take-take 510 512 f (omega arith), whole, eight f (omega arith), zeros, p .f0, p .f1, p .f2, p .f3, a .header)
 
 module _ (f : List ℕ) (h : Header) (e : checkFile f ≡ checked.Accepted h) where
-  facts : Accepted f h
-  facts = accepted f h e
+  facts : Passes f h
+  facts = passes f h e
 
   -- The blocks of boxes in the file are those that n boxes take.
   pub box-blocks : 1 + boxBlocks (length f) ≡ blocksFor (h .boxes)
@@ -93,18 +93,18 @@ joined-parts size f (suc m) =
 pub file-again : (f : List ℕ) (h : Header) → checkFile f ≡ checked.Accepted h → fileOf h (tableOf f) ≡ f
 unfolding fileOf
 file-again f h e =
-    let a = accepted f h e in
+    let a = passes f h e in
     joined-same (sealedBlock h (tableOf f)) (blockOf f) (blocksFor (h .boxes)) (block-again f h e)
     ∙ joined-parts 512 f (blocksFor (h .boxes))
     ∙ take-all (512 * blocksFor (h .boxes)) f (omega (arith, a .long))
 
 pub reproduces-file : ReproducesFile
 unfolding withFile
-reproduces-file f h e = (file-again f h e, sym (accepted f h e .long), back)
+reproduces-file f h e = (file-again f h e, sym (passes f h e .long), back)
   where
     back : (buffer : List ℕ) → length f ≤ length buffer → (hasRoom h (length buffer) ≡ true) × (putFile h (tableOf f) buffer ≡ f ++ drop (length f) buffer)
     back buffer room =
-        let a = accepted f h e in
+        let a = passes f h e in
         let fits : fileLength h ≤ length buffer = omega (arith, a .long) in (
           le-leb (fileLength h) (length buffer) fits,
           put-fits h (tableOf f) buffer (a .ranged) fits ∙ rw (file-again f h e, a .long),

@@ -17,7 +17,7 @@ use Rattle.format.specs.File.{blocksFor, placeStart, placeOf, boxRule, placeRul
 use Rattle.format.specs.declared.Header.{Header}
 use Rattle.format.specs.declared.Checked.the-variants as checked
 use Rattle.boxes.proofs.Bools.{and-left, and-right, or-cases, Every, every}
-use Rattle.format.proofs.Accepted.{Accepted, accepted}
+use Rattle.format.proofs.Passes.{Passes, passes}
 use Rattle.chart.specs.Chart.{joined, boxBlocks, boxesOf, tableOf}
 use Rattle.chart_claims.specs.Claims.{ObeysRules, ShowsTheBox, BoxInRange, assignment, decision, halt, choice, StaysInRange}
 use Rattle.chart.proofs.Lists.{length-part, part-part, part-zeros}
@@ -27,7 +27,7 @@ use Rattle.chart.proofs.Shows.{shows-box}
 
 module _ (f : List ℕ) (h : Header) (e : checkFile f ≡ checked.Accepted h) where
   boxes-sized : (m : ℕ) → m ≤ boxBlocks (length f) → Sized (boxesOf f) 510 m
-  boxes-sized m l i q = let a = accepted f h e in length-part f (512 * (1 + i)) 510 (omega (arith, a .long, box-blocks f h e))
+  boxes-sized m l i q = let a = passes f h e in length-part f (512 * (1 + i)) 510 (omega (arith, a .long, box-blocks f h e))
 
   length-boxes : (m : ℕ) → m ≤ boxBlocks (length f) → length (joined (boxesOf f) m) ≡ 510 * m
   length-boxes m l = joined-length (boxesOf f) 510 m (boxes-sized m l)
@@ -52,7 +52,7 @@ module _ (f : List ℕ) (h : Header) (e : checkFile f ≡ checked.Accepted h) wh
   pub obeys : (p : ℕ) → p < h .boxes → boxRule h (boxOf (tableOf f) p) ≡ true
   unfolding placeRule
   obeys p l =
-      let a = accepted f h e in
+      let a = passes f h e in
       let within : p < 51 * (blocksFor (h .boxes) - 1) = omega (arith, a .some) in
       let holds = rw (lt-ltb p (h .boxes) l) at (a .places p within) in
       ap (boxRule h) (box-is-place p within) ∙ holds
@@ -63,7 +63,7 @@ module _ (f : List ℕ) (h : Header) (e : checkFile f ≡ checked.Accepted h) wh
     where
       on : Dec (p < 51 * (blocksFor (h .boxes) - 1)) → allZero (boxOf (tableOf f) p) ≡ true
       on (yes within) =
-          let a = accepted f h e in
+          let a = passes f h e in
           let holds = rw (le-ltb p (h .boxes) l) at (a .places p within) in
           ap allZero (box-is-place p within) ∙ holds
       on (no past) =
@@ -82,7 +82,7 @@ module _ (f : List ℕ) (h : Header) (e : checkFile f ≡ checked.Accepted h) wh
 
 pub obeys-rules : ObeysRules
 obeys-rules f h e =
-    let a = accepted f h e in
+    let a = passes f h e in
     record { edition = a .edition; ranged = a .ranged; long = table-long f h e; formed = obeys f h e; zero = zeros-past f h e }
 
 -- What the rules say of every box, part by part.
@@ -100,7 +100,7 @@ length-formed edition k n b e = eqb-true (length b) 10 (formed-says edition k n 
 
 pub shows-the-box : ShowsTheBox
 shows-the-box f h p e l =
-    let a = accepted f h e in
+    let a = passes f h e in
     let place = box-is-place f h e p (omega (arith, a .some)) in
     let ten = length-formed (h .edition) (h .inputs) (h .boxes) (boxOf (tableOf f) p) (obeys f h e p l) in
     rw (shows-box f p h e l) (ap length (sym place) ∙ ten, sym place)
@@ -230,7 +230,7 @@ module _ (edition k n : ℕ) (b : List ℕ) (few : k ≤ 16) where
 
 pub stays-in-range : StaysInRange
 stays-in-range f h e =
-    let a = accepted f h e in
+    let a = passes f h e in
     let edition : (1 ≤ h .edition) × (h .edition ≤ 2) =
     ⊎-elim
     (λ one. let is = eqb-true (h .edition) 1 one in omega arith)

@@ -10,7 +10,7 @@ use lib.Seq.{take-at}
 use Rattle.format.specs.File.{headerOf, checkFile}
 use Rattle.format.specs.declared.Header.{Header}
 use Rattle.format.specs.declared.Checked.the-variants as checked
-use Rattle.format.proofs.Accepted.{accepted}
+use Rattle.format.proofs.Passes.{passes}
 use Rattle.chart.specs.Chart.{tableOf, Chart, chartOf, fileOf}
 use Rattle.chart.specs.WriteBack.{fileLength}
 use Rattle.chart_claims.proofs.RoundTrip.{file-again}
@@ -100,7 +100,7 @@ load-does file r e = call-done (load file) r e
 writes-file : (q : Runner) (file buffer : List ℕ) → checkFile file ≡ checked.Accepted (q .header) → q .table ≡ tableOf file → length file ≤ length buffer
     → call (writeBack buffer) q .told ≡ record { reply = wrote (length file); buffer = file ++ drop (length file) buffer }
 writes-file q file buffer e t room =
-    let a = accepted file (q .header) e in
+    let a = passes file (q .header) e in
     let long : fileLength (q .header) ≡ length file = sym (a .long) in
     let again : fileOf (q .header) (q .table) ≡ file = ap (fileOf (q .header)) t ∙ file-again file (q .header) e in
     let accepts = room-accepts q buffer (a .ranged) (omega arith) in
@@ -140,7 +140,7 @@ written-is-loaded r r′ buffer bytes g told n =
     ap (λ (o : Outcome). take bytes (o .told .buffer)) does
     ∙ take-at (fileOf (r .header) (r .table)) rest bytes (own-length f ∙ size)
     ∙ own-file f in
-    let header : r .header ≡ headerOf (f .file) = accepted (f .file) (r .header) (f .checks) .header in
+    let header : r .header ≡ headerOf (f .file) = passes (f .file) (r .header) (f .checks) .header in
     let loads = loads-file r′ (f .file) (f .checks ∙ ap checked.Accepted header) n in
     let loaded : chartOf (f .file) ≡ chartIn r = (let table = f .loads in cc) in
     ap (λ (x : List ℕ). call (load x) r′) file

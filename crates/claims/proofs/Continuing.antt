@@ -12,8 +12,8 @@ use borrow.Author.Tests.{lt-ltb, le-ltb, ltb-false}
 use Rattle.format.specs.File.{refusal}
 use Rattle.marks.specs.Marks.{modeOf, hides}
 use Rattle.marks.specs.declared.Mode.{Mode}
-use Rattle.machine.specs.Run.{Run, Ending, valued, notice, spent, Progress, going, over, run, kept}
-use Rattle.machine.proofs.Runs.{run-add, over-twice, AsBegun, run-as-begun, kept-by}
+use Rattle.machine.specs.Run.{Run, Ending, valued, notice, spent, Progress, going, over, run, disclosed}
+use Rattle.machine.proofs.Runs.{run-add, over-twice, AsBegun, run-as-begun, disclosed-by}
 use Rattle.calls.specs.Calls.{Call, load, begin, advance, answer, abandon, writeBack, rewrite, refuseIf, check}
 use Rattle.calls.specs.declared.Verdict.{Verdict}
 use Rattle.calls.specs.declared.Verdict.the-variants.{Done, Refused}
@@ -52,9 +52,9 @@ module _ (r : Runner) (on : r .state ≡ 1) where
   over-ending (notice named) steps = refl
   over-ending spent steps = refl
 
-  took-steps : (e : Ending) (steps : ℕ) → resumed (over e steps) r .took ≡ steps
+  total-steps : (e : Ending) (steps : ℕ) → resumed (over e steps) r .total ≡ steps
   unfolding resumed endedWith
-  took-steps e steps = refl
+  total-steps e steps = refl
 
   pub over-answers : (e : Ending) (steps : ℕ) → Accepted answer (resumed (over e steps) r)
   unfolding check
@@ -62,7 +62,7 @@ module _ (r : Runner) (on : r .state ≡ 1) where
 
   over-says : (e : Ending) (steps : ℕ) → says answer (resumed (over e steps) r) ≡ ending e steps
   unfolding says
-  over-says e steps = rw (over-ending e steps, took-steps e steps)
+  over-says e steps = rw (over-ending e steps, total-steps e steps)
 
   pub over-tells : (e : Ending) (steps : ℕ) → call answer (resumed (over e steps) r) .told ≡ record { reply = ending e steps; buffer = [] }
   unfolding outcomeBy
@@ -97,11 +97,11 @@ module _ (r : Runner) (on : r .state ≡ 1) where
   inside n = run (flowIn r) n (going (runIn r))
 
   pub ran-over : (n : ℕ) → Over (inside n) → Over (ran n r)
-  ran-over n o = kept-by Over mode (inside n) o (λ h. record { ending = notice 0; steps = 0; is = refl })
+  ran-over n o = disclosed-by Over mode (inside n) o (λ h. record { ending = notice 0; steps = 0; is = refl })
 
   -- What is kept is what the run has come to inside, but where it is what hiding leaves.
   inside-is : (n : ℕ) (p : Progress) → (over (notice 0) 0 ≡ p → ⊥) → ran n r ≡ p → inside n ≡ p
-  inside-is n p other e = kept-by (λ (x : Progress). x ≡ p → inside n ≡ p) mode (inside n) (λ d. d) (λ h d. absurd (other d)) e
+  inside-is n p other e = disclosed-by (λ (x : Progress). x ≡ p → inside n ≡ p) mode (inside n) (λ d. d) (λ h d. absurd (other d)) e
 
   going-inside : (n : ℕ) (q : Run) → ran n r ≡ going q → inside n ≡ going q
   going-inside n q e = inside-is n (going q) (λ d. clash cc) e
@@ -112,24 +112,24 @@ module _ (r : Runner) (on : r .state ≡ 1) where
   pub value-inside : (n v steps : ℕ) → ran n r ≡ over (valued v) steps → inside n ≡ over (valued v) steps
   value-inside n v steps e = inside-is n (over (valued v) steps) (λ d. clash cc) e
 
-  going-ran : (m : ℕ) (q : Run) → ran m (resumed (going q) r) ≡ kept (modeOf (q .mode)) (run (flowIn r) m (going q))
+  going-ran : (m : ℕ) (q : Run) → ran m (resumed (going q) r) ≡ disclosed (modeOf (q .mode)) (run (flowIn r) m (going q))
   unfolding resumed
   going-ran m q = refl
 
   ran-further : (m n : ℕ) (q : Run) → ran n r ≡ going q → ran m (resumed (going q) r) ≡ ran (n + m) r
   ran-further m n q e =
       going-ran m q
-      ∙ ap (λ (k : ℕ). kept (modeOf k) (run (flowIn r) m (going q))) (as-begun n q e .0)
-      ∙ ap (λ (p : Progress). kept mode (run (flowIn r) m p)) (sym (going-inside n q e))
-      ∙ ap (kept mode) (sym (run-add (flowIn r) n m (going (runIn r))))
+      ∙ ap (λ (k : ℕ). disclosed (modeOf k) (run (flowIn r) m (going q))) (as-begun n q e .0)
+      ∙ ap (λ (p : Progress). disclosed mode (run (flowIn r) m p)) (sym (going-inside n q e))
+      ∙ ap (disclosed mode) (sym (run-add (flowIn r) n m (going (runIn r))))
 
   pub ran-still : (m n : ℕ) (e : Ending) (steps : ℕ) → ran n r ≡ over e steps → ran (n + m) r ≡ over e steps
-  unfolding kept
+  unfolding disclosed
   ran-still m n e steps d = by (inside n) refl
     where
       by : (p : Progress) → inside n ≡ p → ran (n + m) r ≡ over e steps
-      by (going q) h = let z : going q ≡ over e steps = ap (kept mode) (sym h) ∙ d in clash cc
-      by (over k steps′) h = ap (kept mode) (over-twice (flowIn r) _ k n steps′ m h ∙ sym h) ∙ d
+      by (going q) h = let z : going q ≡ over e steps = ap (disclosed mode) (sym h) ∙ d in clash cc
+      by (over k steps′) h = ap (disclosed mode) (over-twice (flowIn r) _ k n steps′ m h ∙ sym h) ∙ d
 
   -- The least amount by which it may be advanced stays.
   least-stays : (n : ℕ) (q : Run) → ran n r ≡ going q → leastIn (resumed (going q) r) ≡ leastIn r
@@ -292,7 +292,7 @@ module _ (r : Runner) (on : r .state ≡ 1) where
   -- A list from a runner that is r.
   module _ {start : Runner} (e : start ≡ r) where
     pub from-start : start ≡ resumed (ran 0 r) r
-    unfolding kept run
+    unfolding disclosed run
     from-start = e ∙ sym self-resumed
 
     pub final-from : (cs : List Call) → AllContinue cs start → Ran (asked cs) (final cs start)

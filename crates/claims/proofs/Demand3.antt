@@ -11,7 +11,7 @@ use Rattle.marks.specs.declared.Mode.the-variants.{Surveillance}
 use Rattle.begin.specs.Begin.{effective}
 use Rattle.begin.proofs.Begins.{effective-positive}
 use Rattle.machine.specs.Run.{Run, valued, Progress, going, over, run}
-use Rattle.machine.proofs.Runs.{over-twice, kept-all}
+use Rattle.machine.proofs.Runs.{over-twice, disclosed-all}
 use Rattle.calls.specs.Calls.{answer}
 use Rattle.runner.specs.declared.Runner.{Runner}
 use Rattle.runner.specs.State.{chartIn, flowIn, ran, resumed}
@@ -61,7 +61,7 @@ answers-as-high-water r r′ inputs allowed limit limit′ b v steps w ds qd =
           let o = ran-over start refl n (run-ends (flowIn r′) n (startIn r′ inputs allowed l 1) (effective-positive limit′) (omega arith)) in
           subst (Accepted answer) (sym (last .is ∙ ap (λ (x : Progress). resumed x start) (o .is))) (over-answers start refl (o .ending) (o .steps))),
       (λ ends.
-          let same = kept-all Surveillance refl (run (flowIn r′) n (going (startIn r′ inputs allowed l 1))) in
+          let same = disclosed-all Surveillance refl (run (flowIn r′) n (going (startIn r′ inputs allowed l 1))) in
           let o = answered-over start refl (ran n start) (subst (Accepted answer) (last .is) ends) in
           let is = surveyed-value r′ inputs allowed l n (told .0) v steps (value-inside high refl (told .0) v steps (told .1)) (subst Over same o) in
           ap (λ (x : Runner). call answer x .told) (last .is ∙ ap (λ (x : Progress). resumed x start) (same ∙ is)) ∙ over-tells start refl (valued v) steps),

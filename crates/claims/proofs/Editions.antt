@@ -11,7 +11,7 @@ use borrow.Author.Tests.{eqb-true, ltb-true, ltb-false, ne-eqb}
 use Rattle.boxes.specs.Bytes.{at}
 use Rattle.boxes.specs.Box.{readsRight, assignmentRule, wellFormed}
 use Rattle.operations.specs.Operation.{readBy, sum, difference, valueOfLeft, valueOfBoth, valueOf}
-use Rattle.claims.specs.Editions.{OthersAlike, BoxesAlike, CountersDontWrap}
+use Rattle.claims.specs.Editions.{OthersAlike, BoxesAlike, SecondSaturates}
 
 -- Only operation 11 asks the edition what it reads.
 right-alike : (op : ℕ) → (op ≡ 11 → ⊥) → readsRight 2 op ≡ readsRight 1 op
@@ -61,6 +61,6 @@ difference-is left right = by (ltb left right) refl
     by true e = omega (arith, ltb-true left right e)
     by false e = omega (arith, ltb-false left right e)
 
-pub counters-dont-wrap : CountersDontWrap
+pub second-saturates : SecondSaturates
 unfolding readBy valueOf valueOfLeft valueOfBoth
-counters-dont-wrap left right = record { sum = sum-is left right; difference = difference-is left right; zeros = refl }
+second-saturates left right = record { sum = sum-is left right; difference = difference-is left right; zeros = refl }

@@ -7,7 +7,7 @@ use mathlib.Core.Bool.{true}
 use native.Mathlib.Omega.{arith}
 use Rattle.marks.specs.Marks.{modeOf, hides}
 use Rattle.marks.specs.declared.Mode.{Mode}
-use Rattle.machine.specs.Run.{valued, notice, spent, Progress, going, over, run, kept}
+use Rattle.machine.specs.Run.{valued, notice, spent, Progress, going, over, run, disclosed}
 use Rattle.begin.specs.Begin.{effective}
 use Rattle.begin.proofs.Begins.{effective-positive}
 use Rattle.calls.specs.Calls.{begin}
@@ -31,12 +31,12 @@ abbrev Hidden : Progress → Type 0
 Hidden (going q) = Unit {0}
 Hidden (over e steps) = CountsValuesOnly (ending e steps)
 
-kept-hidden : (m : Mode) → hides m ≡ true → (p : Progress) → Hidden (kept m p)
-unfolding kept
-kept-hidden m h (going q) = tt
-kept-hidden m h (over (valued v) steps) = tt
-kept-hidden m h (over (notice named) steps) = rw h (refl, refl)
-kept-hidden m h (over spent steps) = rw h (refl, refl)
+disclosed-hidden : (m : Mode) → hides m ≡ true → (p : Progress) → Hidden (disclosed m p)
+unfolding disclosed
+disclosed-hidden m h (going q) = tt
+disclosed-hidden m h (over (valued v) steps) = tt
+disclosed-hidden m h (over (notice named) steps) = rw h (refl, refl)
+disclosed-hidden m h (over spent steps) = rw h (refl, refl)
 
 -- What advance tells of a run that is over there.
 over-told : (m : Mode) → hides m ≡ true → (p : Progress) → Over p → progressReply m p ≡ ended 0
@@ -57,13 +57,13 @@ high-water-tells r mode inputs allowed limit a cs q t m two = by (replied-from s
     by holds = tt
     by (came n l) =
         subst CountsValuesOnly (sym (over-told (modeOf mode) hidden (ran n s) (reaches r mode inputs allowed limit a n (rw hidden at l)))) refl
-    by (ended-so n d) = subst Hidden d (kept-hidden (modeOf mode) hidden (run (flowIn r) n (going (runIn s))))
+    by (ended-so n d) = subst Hidden d (disclosed-hidden (modeOf mode) hidden (run (flowIn r) n (going (runIn s))))
     by put = tt
     by turned = tt
 
 -- What an answer tells of a run that is over.
-finish-hidden : (m : Mode) → hides m ≡ true → (p : Progress) → Over p → ending (finish (kept m p) .ending) (finish (kept m p) .steps) ≡ answerTo p
-unfolding kept finish
+finish-hidden : (m : Mode) → hides m ≡ true → (p : Progress) → Over p → ending (finish (disclosed m p) .ending) (finish (disclosed m p) .steps) ≡ answerTo p
+unfolding disclosed finish
 finish-hidden m h (going q) o = let e = o .is in clash cc
 finish-hidden m h (over (valued v) steps) o = refl
 finish-hidden m h (over (notice named) steps) o = rw h refl

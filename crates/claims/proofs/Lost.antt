@@ -10,7 +10,7 @@ use Rattle.marks.specs.declared.Mode.{Mode}
 use Rattle.marks.specs.declared.Mode.the-variants.{HighWater}
 use Rattle.marks.proofs.MarkLaws.{marked-or}
 use Rattle.machine.specs.Act.{entry, entries, actBy, act}
-use Rattle.machine.specs.Run.{Run, notice, spent, Progress, going, over, goesOn, settle, onward, kept}
+use Rattle.machine.specs.Run.{Run, notice, spent, Progress, going, over, goesOn, settle, onward, disclosed}
 use Rattle.machine.proofs.Runs.{goes-by}
 use Rattle.claims.proofs.Branches.{clash}
 use Rattle.claims.proofs.Counting.{Over}
@@ -45,8 +45,8 @@ module _ (flow : ℕ → Box) where
   onward-lost noticed = noticed
   onward-lost used-up = used-up
 
-pub lost-hidden : {p : Progress} → Lost p → Over p → kept HighWater p ≡ over (notice 0) 0
-unfolding kept
+pub lost-hidden : {p : Progress} → Lost p → Over p → disclosed HighWater p ≡ over (notice 0) 0
+unfolding disclosed
 lost-hidden (counted m c) o = let e = o .is in clash cc
 lost-hidden noticed o = refl
 lost-hidden used-up o = refl

@@ -89,8 +89,8 @@ pub union-and-kept : UnionAndKept
 union-and-kept before read j =
     let all = union-seen (λ set. has set j) (none-has j) (λ a b. or-has a b j) read in (
       (λ keep. or-has (union read) (bitAnd before keep) j ∙ rw (all, and-has before keep j)),
-      (λ numbers. or-has (bitAnd (union read) (numbers .take)) (bitAnd before (numbers .keep)) j
-          ∙ rw (and-has (union read) (numbers .take) j, all, and-has before (numbers .keep) j)),
+      (λ masks. or-has (bitAnd (union read) (masks .take)) (bitAnd before (masks .keep)) j
+          ∙ rw (and-has (union read) (masks .take) j, all, and-has before (masks .keep) j)),
     )
 
 pub one-arithmetic : OneArithmetic

@@ -15,7 +15,7 @@ use Rattle.marks.specs.Marks.{modeOf, marked, union, decisionNotice, counterMar
 use Rattle.machine.specs.Act.{entry, entries, actBy, act}
 use Rattle.machine.specs.Run.{Run, Ending, valued, notice, spent, Progress, going, over, settle, step, run}
 use Rattle.machine.specs.declared.Act.the-variants.{Go, Value}
-use Rattle.machine.proofs.Runs.{run-keeps, goes-by, notice-by, kept-by}
+use Rattle.machine.proofs.Runs.{run-keeps, goes-by, notice-by, disclosed-by}
 use Rattle.begin.specs.Begin.{effective, has, allows}
 use Rattle.begin.proofs.Begins.{marks-all, zeros-at}
 use Rattle.calls.specs.Calls.{Call, begin}
@@ -56,7 +56,7 @@ ran-withheld n mode inputs allowed limit c =
     let none = none-withheld allowed k in
     let first = startOf mode inputs allowed limit (c .header) in
     let boxes = flow (c .header .edition) (c .table) in
-    kept-by (Carries (WithheldOnly allowed k)) (modeOf mode) (run boxes n (going first))
+    disclosed-by (Carries (WithheldOnly allowed k)) (modeOf mode) (run boxes n (going first))
     (run-carries (WithheldOnly allowed k) none (join-withheld allowed k) boxes n first
     (record { marks = marks-all (WithheldOnly allowed k) allowed k none (own-withheld allowed k); counter = none }))
     (λ h. none)
@@ -146,7 +146,7 @@ module _ (r : Runner) (mode : ℕ) (inputs : List ℕ) (allowed limit : ℕ) (a 
   told-names t m e steps h =
       let o = told-over t m e steps h in
       subst (Names mode) (o .1)
-      (kept-by (Names mode) (modeOf mode) (run (flowIn r) (o .0) (going (runIn start))) (run-names (flowIn r) mode (o .0) (runIn start) refl) (hidden-names mode))
+      (disclosed-by (Names mode) (modeOf mode) (run (flowIn r) (o .0) (going (runIn start))) (run-names (flowIn r) mode (o .0) (runIn start) refl) (hidden-names mode))
 
 pub marks-withheld : MarksWithheld
 marks-withheld r mode inputs allowed limit a cs q =

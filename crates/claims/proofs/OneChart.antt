@@ -11,7 +11,7 @@ use borrow.Author.Tests.{le-leb}
 use Rattle.format.specs.File.{checkFile}
 use Rattle.format.specs.declared.Header.{Header}
 use Rattle.format.specs.declared.Checked.the-variants as checked
-use Rattle.format.proofs.Accepted.{accepted}
+use Rattle.format.proofs.Passes.{passes}
 use Rattle.format.proofs.Ranges.{in-range}
 use Rattle.chart.specs.Chart.{tableOf, fileOf}
 use Rattle.chart.specs.WriteBack.{fileLength, withFile}
@@ -42,7 +42,7 @@ module _ {h : Header} {table : List ℕ} (f : From h table) where
   own-file = ap (fileOf h) (f .loads) ∙ file-again (f .file) h (f .checks)
 
   pub own-length : length (fileOf h table) ≡ fileLength h
-  own-length = ap length own-file ∙ accepted (f .file) h (f .checks) .long
+  own-length = ap length own-file ∙ passes (f .file) h (f .checks) .long
 
 front-same : (f f′ x x′ : List ℕ) → length f ≡ length f′ → f ++ x ≡ f′ ++ x′ → f ≡ f′
 front-same f f′ x x′ l e = sym (take-append-seam f x) ∙ rw (l, e) (take-append-seam f′ x′)

@@ -6,7 +6,7 @@ use mathlib.Core.List.{List, [], _∷_}
 use native.Mathlib.Omega.{arith}
 use lib.ListN.{length}
 use Rattle.format.specs.File.{headerOf}
-use Rattle.format.proofs.Accepted.{accepted}
+use Rattle.format.proofs.Passes.{passes}
 use Rattle.begin.specs.Begin.{limitForNone, effective}
 use Rattle.calls.specs.Calls.{Call, load}
 use Rattle.runner.specs.declared.Runner.{Runner}
@@ -23,7 +23,7 @@ reached-final [] h = h
 reached-final (c ∷ cs) h = reached-final cs (then h c)
 
 file-fits : (file : List ℕ) (r : Runner) → Accepted (load file) r → length file ≤ 2560
-file-fits file r a = let f = accepted file (headerOf file) (accepted-file file r a) in omega (arith, f .long, f .fits)
+file-fits file r a = let f = passes file (headerOf file) (accepted-file file r a) in omega (arith, f .long, f .fits)
 
 -- Whatever calls came since that put no other chart in its place.
 pub one-file-held : (r r′ : Runner) (file : List ℕ) (past past′ : List Call)

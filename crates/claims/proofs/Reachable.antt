@@ -15,7 +15,7 @@ use Rattle.format.specs.File.{headerOf, inRange, checkFile}
 use Rattle.format.specs.declared.Header.{Header}
 use Rattle.format.specs.declared.Checked.{Checked}
 use Rattle.format.specs.declared.Checked.the-variants as checked
-use Rattle.format.proofs.Accepted.{accepted}
+use Rattle.format.proofs.Passes.{passes}
 use Rattle.format.proofs.Ranges.{in-range}
 use Rattle.chart.specs.Chart.{tableOf, Chart, fileOf}
 use Rattle.rewrite.specs.Rewrite.{rewritten, rewrittenChart}
@@ -29,7 +29,7 @@ use Rattle.marks.specs.declared.Mode.{Mode}
 use Rattle.machine.specs.Act.{entry, entries, actBy, act}
 use Rattle.machine.specs.Run.{Run, Ending, valued, notice, spent, Progress, going, over, moved, goesOn, settle, step, run}
 use Rattle.machine.specs.declared.Act.the-variants.{Go, Value}
-use Rattle.machine.proofs.Runs.{run-keeps, goes-by, notice-by, kept-by}
+use Rattle.machine.proofs.Runs.{run-keeps, goes-by, notice-by, disclosed-by}
 use Rattle.begin.specs.Begin.{effective}
 use Rattle.begin.proofs.Begins.{effective-positive, effective-fits, length-vars, length-marks, marks-all}
 use Rattle.calls.specs.Calls.{Call, load, begin, advance, answer, abandon, writeBack, rewrite, fileVerdict, check}
@@ -56,7 +56,7 @@ pub record Sound (r : Runner) : Type 0 where
   pub held : isHeld r ≡ true → From (r .header) (r .table)
   pub rests : isRunning r ≡ false → isEnded r ≡ false → r ≡ dropped r
   pub runs : isRunning r ≡ true → UnderWay r
-  pub ends : isEnded r ≡ true → (isHeld r ≡ true) × (r .state ≤ 4) × InputsOf (r .header) (r .named) × (r ≡ endedWith (endingIn r) (r .took) r)
+  pub ends : isEnded r ≡ true → (isHeld r ≡ true) × (r .state ≤ 4) × InputsOf (r .header) (r .named) × (r ≡ endedWith (endingIn r) (r .total) r)
 
 -- A runner without a run, and with an ended one.
 dropped-sound : (c : Chart) → (inRange (c .header) ≡ true → From (c .header) (c .table)) → Sound (idle c)
@@ -66,7 +66,7 @@ dropped-sound c f =
 
 over-sound : (q : Runner) → From (q .header) (q .table) → isHeld q ≡ true → isEnded q ≡ true → isRunning q ≡ false → q .state ≤ 4
     → InputsOf (q .header) (q .named)
-    → q ≡ endedWith (endingIn q) (q .took) q
+    → q ≡ endedWith (endingIn q) (q .total) q
     → Sound q
 over-sound q f h e n l i is =
     record { held = λ z. f; rests = λ z y. absurd (true≢false (sym e ∙ y)); runs = λ z. absurd (false≢true (sym n ∙ z)); ends = λ z. (h, l, i, is) }
@@ -136,7 +136,7 @@ unfolding check fileVerdict
 accepted-file file r e = on (checkFile file) refl (passed (isRunning r) 22 e .1)
   where
     on : (x : Checked) → checkFile file ≡ x → fileVerdict x ≡ Done → checkFile file ≡ checked.Accepted (headerOf file)
-    on (checked.Accepted h) q v = q ∙ ap checked.Accepted (accepted file h q .header)
+    on (checked.Accepted h) q v = q ∙ ap checked.Accepted (passes file h q .header)
     on (checked.Refused x) q v = not-done v
 
 start-sound : (mode : ℕ) (inputs : List ℕ) (allowed limit : ℕ) (r : Runner) → check (begin mode inputs allowed limit) (standingOf r) ≡ Done → Sound r
@@ -173,8 +173,8 @@ advance-sound m r e h =
     let mode = modeOf (r .mode) in
     let come = run (flowIn r) m (going (runIn r)) in
     resumed-sound r (eqb-true _ _ on) f u (ran m r)
-    (kept-by (Ranged (r .header)) mode come (run-ranged (r .header) (r .table) f m (runIn r) (u .ranged)) (λ z. tt))
-    (kept-by (Carries (InputsOf (r .header))) mode come
+    (disclosed-by (Ranged (r .header)) mode come (run-ranged (r .header) (r .table) f m (runIn r) (u .ranged)) (λ z. tt))
+    (disclosed-by (Carries (InputsOf (r .header))) mode come
     (run-carries (InputsOf (r .header)) (pow-pos k) (or-lt k) (flowIn r) m (runIn r) (u .sets)) (λ z. pow-pos k))
 
 -- A rewritten chart obeys the rules, so it has a file that loads to it.

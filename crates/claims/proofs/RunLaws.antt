@@ -13,7 +13,7 @@ use Rattle.marks.specs.declared.Mode.{Mode}
 use Rattle.marks.specs.declared.Mode.the-variants.{Bare, Surveillance, HighWater}
 use Rattle.machine.specs.Act.{actBy}
 use Rattle.machine.specs.Run.{Run, Ending, Progress, going, over, run}
-use Rattle.machine.proofs.Runs.{kept-by, kept-all}
+use Rattle.machine.proofs.Runs.{disclosed-by, disclosed-all}
 use Rattle.begin.specs.Begin.{effective}
 use Rattle.begin.proofs.Begins.{effective-positive}
 use Rattle.calls.specs.Calls.{Call, load, begin, advance, answer, abandon, writeBack, rewrite, check}
@@ -128,7 +128,7 @@ module _ (r : Runner) (mode : ℕ) (inputs : List ℕ) (allowed limit : ℕ) (a 
 
     advance-start : (m : ℕ) → call (advance m) start ≡ advanced start refl (inside m)
     advance-start m =
-        first-advance m start refl (any-amount start n m) ∙ ap (λ (p : Progress). advanced start refl p) (kept-all (modeOf mode) unhidden (inside m))
+        first-advance m start refl (any-amount start n m) ∙ ap (λ (p : Progress). advanced start refl p) (disclosed-all (modeOf mode) unhidden (inside m))
 
     reply-start : (m : ℕ) → call (advance m) start .told .reply ≡ progressReply (modeOf mode) (inside m)
     reply-start m = ap (λ (o : Outcome). o .told .reply) (advance-start m)
@@ -251,7 +251,7 @@ within-limit r mode inputs allowed limit a cs q t m = by (replied-from s refl (b
 
     within : (n : ℕ) → stepsOf (ran n s) ≤ effective limit
     within n =
-        kept-by (λ (p : Progress). stepsOf p ≤ effective limit) (modeOf mode) (run (flowIn r) n (going (runIn s)))
+        disclosed-by (λ (p : Progress). stepsOf p ≤ effective limit) (modeOf mode) (run (flowIn r) n (going (runIn s)))
         (after-within (flowIn r) n (runIn s) (from-here r mode inputs allowed limit a n)) (λ h. omega arith)
 
     by : {x : Reply} → Replied s refl x → stepsTold x ≤ effective limit

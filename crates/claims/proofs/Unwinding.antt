@@ -18,7 +18,7 @@ use Rattle.marks.specs.declared.Mode.{Mode}
 use Rattle.marks.specs.declared.Mode.the-variants.{Surveillance, HighWater}
 use Rattle.marks.proofs.MarkLaws.{or-none, union-none, marked-none}
 use Rattle.machine.specs.Act.{entry, entries, actBy, act}
-use Rattle.machine.specs.Run.{Run, Progress, going, over, goesOn, settle, step, onward, run, kept}
+use Rattle.machine.specs.Run.{Run, Progress, going, over, goesOn, settle, step, onward, run, disclosed}
 use Rattle.machine.specs.declared.Act.the-variants.{Go, Value, Notice}
 use Rattle.calls.specs.Calls.{Call, load, begin, advance, answer, abandon, writeBack, rewrite, check}
 use Rattle.calls.specs.declared.Verdict.{Verdict}
@@ -144,12 +144,12 @@ data Close : Progress → Progress → Type 0 where
   close : {p : Progress} → Close p p
   still-apart : {q : Run} (w : List ℕ) → Watched Surveillance (q .mode) (q .counter) → Agree (q .marks) (q .vars) w → Close (going q) (going (withVars q w))
 
-kept-close : {m : Mode} {p p′ : Progress} → Low m p p′ → (hides m ≡ true → Over p × Over p′) → Close (kept m p) (kept m p′)
-unfolding kept
-kept-close same-run o = close
-kept-close (runs-apart w (surveyed m) h) o = still-apart w (surveyed m) h
-kept-close (runs-apart w (unmarked m c) h) o = let e = o refl .0 .is in clash cc
-kept-close (both-lost a b) o = rw (lost-hidden a (o refl .0), lost-hidden b (o refl .1)) close
+disclosed-close : {m : Mode} {p p′ : Progress} → Low m p p′ → (hides m ≡ true → Over p × Over p′) → Close (disclosed m p) (disclosed m p′)
+unfolding disclosed
+disclosed-close same-run o = close
+disclosed-close (runs-apart w (surveyed m) h) o = still-apart w (surveyed m) h
+disclosed-close (runs-apart w (unmarked m c) h) o = let e = o refl .0 .is in clash cc
+disclosed-close (both-lost a b) o = rw (lost-hidden a (o refl .0), lost-hidden b (o refl .1)) close
 
 -- The runner with other values in its variables, and low-equal runners. Where counts are hidden, a
 -- run under way is below its limit.
@@ -189,11 +189,11 @@ module _ (r : Runner) (w : List ℕ) (s : r .state ≡ 1) {m : Mode} (g : Watche
           → Low m (run (flowIn r) k (going (runIn r))) (run (flowIn r) k (going (withVars (runIn r) w)))
           → (hides m ≡ true → r .steps < r .limit)
           → Close (ran k r) (ran k (otherVars r w))
-      by (surveyed a) low below = rw a (kept-close low (λ z. absurd (false≢true z)))
+      by (surveyed a) low below = rw a (disclosed-close low (λ z. absurd (false≢true z)))
       by (unmarked a c) low below =
           let most : r .limit ≤ k = rw a at enough in
           let under = below refl in
-          rw a (kept-close low (λ z. (run-ends (flowIn r) k (runIn r) under (omega arith), run-ends (flowIn r) k (withVars (runIn r) w) under (omega arith))))
+          rw a (disclosed-close low (λ z. (run-ends (flowIn r) k (runIn r) under (omega arith), run-ends (flowIn r) k (withVars (runIn r) w) under (omega arith))))
 
   says-low : (c : Call) → check c (standingOf r) ≡ Done → says c r ≡ says c (otherVars r w)
   unfolding says

@@ -68,7 +68,7 @@ pub record UnderWay (r : Runner) : Type 0 where
   pub held : isHeld r ≡ true
   pub ranged : RunInRange (r .header) (runIn r)
   pub sets : AllSets (InputsOf (r .header)) (runIn r)
-  pub forgot : (r .took ≡ 0) × (r .value ≡ 0) × (r .named ≡ 0)
+  pub forgot : (r .total ≡ 0) × (r .value ≡ 0) × (r .named ≡ 0)
 
 abbrev pub RunsInRange : Type 0
 RunsInRange = (r : Runner) → Reached r → isRunning r ≡ true → UnderWay r

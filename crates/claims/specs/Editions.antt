@@ -32,10 +32,10 @@ given edition op left right = valueOf edition op 0 (readBy edition op left right
 -- the true sum; "Operation 3 gives 0 where right exceeds left", and else the true difference;
 -- operation 11 "gives the lesser of the left operand's trailing zeros", which it gives in edition
 -- 1, "and the right value".
-pub record WithoutWrapping (left right : ℕ) : Type 0 where
+pub record Saturates (left right : ℕ) : Type 0 where
   pub sum : given 2 2 left right ≡ min (left + right) 4294967295
   pub difference : given 2 3 left right + right ≡ max left right
   pub zeros : given 2 11 left right ≡ min (given 1 11 left right) right
 
-abbrev pub CountersDontWrap : Type 0
-CountersDontWrap = (left right : ℕ) → WithoutWrapping left right
+abbrev pub SecondSaturates : Type 0
+SecondSaturates = (left right : ℕ) → Saturates left right

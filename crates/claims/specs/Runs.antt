@@ -128,4 +128,4 @@ abbrev pub Cleared : Type 0
 Cleared =
     (r : Runner)
     → Reached r
-    → (isRunning r ≡ false → isEnded r ≡ false → r ≡ dropped r) × (isEnded r ≡ true → r ≡ endedWith (endingIn r) (r .took) r)
+    → (isRunning r ≡ false → isEnded r ≡ false → r ≡ dropped r) × (isEnded r ≡ true → r ≡ endedWith (endingIn r) (r .total) r)

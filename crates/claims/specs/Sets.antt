@@ -7,10 +7,10 @@ use mathlib.Core.Bool.{Bool, true, false, cond, not, _&&_, _||_}
 use lib.Dec.{eqb, ltb}
 use lib.ListN.{getD}
 use Rattle.decode.specs.Decode.{Box}
-use Rattle.marks.specs.Marks.{marked, union, targetMark, setMark, numbersOf, setBy, decisionNotice, counterMark, haltNotice}
+use Rattle.marks.specs.Marks.{marked, union, targetMark, setMark, masksOf, setBy, decisionNotice, counterMark, haltNotice}
 use Rattle.marks.specs.declared.Mode.{Mode}
 use Rattle.marks.specs.declared.Mode.the-variants.{Bare, Surveillance, HighWater}
-use Rattle.marks.specs.declared.Numbers.{Numbers}
+use Rattle.marks.specs.declared.Masks.{Masks}
 use Rattle.machine.specs.Run.{Run, Ending, valued, notice, spent, Progress, going, over, run}
 use Rattle.begin.specs.Begin.{has, allows, firstMarks}
 use Rattle.runner.specs.State.{namedIn, runIn}
@@ -81,7 +81,7 @@ UnionAndKept =
     (before : ℕ) (read : List ℕ) (j : ℕ)
     → let isRead = anyMarked (map (λ set. has set j) read) in
     ((keep : ℕ) → has (setMark keep before (union read)) j ≡ (isRead || (has before j && has keep j)))
-    × ((numbers : Numbers) → has (setBy numbers before (union read)) j ≡ ((isRead && has (numbers .take) j) || (has before j && has (numbers .keep) j)))
+    × ((masks : Masks) → has (setBy masks before (union read)) j ≡ ((isRead && has (masks .take) j) || (has before j && has (masks .keep) j)))
 
 -- "one piece of arithmetic for both modes": by 0 it is the rule of surveillance, and by 65,535, on
 -- an old set of 16 inputs, that of the high-water mark.
@@ -95,7 +95,7 @@ OneArithmetic =
 -- inputs.
 abbrev pub SetAsRuled : Type 0
 SetAsRuled =
-    (mode : Mode) (before : ℕ) (read : List ℕ) → before < 2 ^ 16 → union read < 2 ^ 16 → setBy (numbersOf mode) before (union read) ≡ targetMark mode before (union read)
+    (mode : Mode) (before : ℕ) (read : List ℕ) → before < 2 ^ 16 → union read < 2 ^ 16 → setBy (masksOf mode) before (union read) ≡ targetMark mode before (union read)
 
 -- A set seen as a mark, 1 or 0, and so all those of a run and of what it comes to.
 abbrev pub asMark : ℕ → ℕ

@@ -5,7 +5,7 @@ ghost use Rattle.claims.specs.Runs.{RefusalChangesNothing, AdvancesJoin,
 ghost use Rattle.claims.specs.Charts.{HeldObeys, RunsInRange, EndsInRange, LoadedIsWritten, WrittenIsLoaded};
 ghost use Rattle.claims.specs.Sets.{EmptyWhereUnmarked, SetsAreUnions, UnionAndKept, OneArithmetic, SetAsRuled, SetsOnlyName, MarksWithheld, NamesWithheld, SurveillanceNames, OthersNameNone};
 ghost use Rattle.claims.specs.HighWater.{HighWaterTells, HighWaterAnswers, HighWaterEnds};
-ghost use Rattle.claims.specs.Editions.{OthersAlike, BoxesAlike, CountersDontWrap};
+ghost use Rattle.claims.specs.Editions.{OthersAlike, BoxesAlike, SecondSaturates};
 ghost use Rattle.claims.specs.Distinct.{RepliesDistinct};
 ghost use Rattle.claims.specs.Bounds.{AnswersAtTheLimit, RunsWithinBounds, WrittenIntoExactRoom, HeldWithinBounds, StatesWithinBounds, NamesWithinBounds, KeepsOneInput};
 
@@ -20,7 +20,7 @@ pub fn promised()
         × EmptyWhereUnmarked × SetsAreUnions × UnionAndKept × OneArithmetic × SetAsRuled
         × SetsOnlyName × MarksWithheld × NamesWithheld × SurveillanceNames × OthersNameNone
         × HighWaterTells × HighWaterAnswers × HighWaterEnds
-        × OthersAlike × BoxesAlike × CountersDontWrap
+        × OthersAlike × BoxesAlike × SecondSaturates
         × AnswersAtTheLimit × RunsWithinBounds × WrittenIntoExactRoom × HeldWithinBounds
         × StatesWithinBounds × NamesWithinBounds × KeepsOneInput
         ⌝ }

@@ -16,7 +16,7 @@ use Rattle.format.specs.declared.Header.{Header}
 use Rattle.format.specs.declared.Refusal.{Refusal}
 use Rattle.format.specs.declared.Checked.{Checked}
 use Rattle.format.specs.declared.Checked.the-variants.{Accepted, Refused}
-use Rattle.format.proofs.Accepted.{passed, accepted}
+use Rattle.format.proofs.Passes.{passed, passes}
 use Rattle.chart.specs.Chart.{tableOf}
 use Rattle.chart.specs.WriteBack.{fileLength, withFile, hasRoom, putFile}
 use Rattle.chart.specs.declared.Written.the-variants as written
@@ -75,7 +75,7 @@ module _ (f table : List ℕ) (room : ℕ) where
   fits e =
       let a = after-accepted e in
       let facts = chart-accepted (a .0) table room (a .2) in
-      rw (facts .2) (accepted f (a .0) (a .1) .ranged, facts .1)
+      rw (facts .2) (passes f (a .0) (a .1) .ranged, facts .1)
 
 module _ (f table buffer : List ℕ) (loads : table ≡ tableOf f) where
   pub converts : (h : Header) {bytes : ℕ} {end : List ℕ} → checkAfter (checkFile f) table (length buffer) ≡ Accepted h

@@ -16,7 +16,7 @@ use Rattle.format.specs.File.{isEdition}
 use Rattle.format.specs.declared.Header.{Header}
 use Rattle.chart_claims.proofs.Rules.{formed-says}
 use Rattle.convert.specs.Convert.{otherThan, isOperation, takes}
-use Rattle.decode.specs.Decode.{word, decode, assigns, meaning}
+use Rattle.decode.specs.Decode.{littleEndian, decode, assigns, meaning}
 use Rattle.decode.specs.declared.FlowBox.the-variants.{Assign, Decide, Halt, Choose}
 use Rattle.claims.proofs.Editions.{others-alike, boxes-alike}
 use Rattle.convert_claims.specs.Conversions.{Untaken, operation, kind, KindsOfBoxes}
@@ -95,7 +95,7 @@ module _ (edition : ℕ) (b : List ℕ) (taken : takes edition b ≡ true) where
       by : (first : Bool) → eqb (at b 0) 1 ≡ first → meaning 2 (decode b) ≡ meaning 1 (decode b)
       by true e =
           rw e
-          (assigned-alike (at b 1) (at b 2) (at b 3) (at b 4) (at b 5) (word (at b 6) (at b 7) (at b 8) (at b 9))
+          (assigned-alike (at b 1) (at b 2) (at b 3) (at b 4) (at b 5) (littleEndian (at b 6) (at b 7) (at b 8) (at b 9))
           (not-of 2 (operations .0) e) (not-of 3 (operations .1) e) (not-of 11 (operations .2) e))
       by false e =
           rw e

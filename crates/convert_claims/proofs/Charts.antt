@@ -17,7 +17,7 @@ use Rattle.format.specs.File.{headerOf, checkFile}
 use Rattle.format.specs.declared.Header.{Header}
 use Rattle.format.specs.declared.Refusal.{Refusal}
 use Rattle.format.specs.declared.Checked.the-variants as checked
-use Rattle.format.proofs.Accepted.{accepted}
+use Rattle.format.proofs.Passes.{passes}
 use Rattle.chart.specs.Chart.{tableOf, Chart, chartOf}
 use Rattle.chart.proofs.Lists.{length-part}
 use Rattle.chart_claims.proofs.Rules.{obeys-rules}
@@ -25,7 +25,7 @@ use Rattle.convert.specs.Convert.{otherThan, inOther}
 use Rattle.decode.specs.Decode.{Box, decode, meaning, flow}
 use Rattle.decode.proofs.Decoded.{box-here, box-past}
 use Rattle.marks.specs.Marks.{modeOf}
-use Rattle.machine.specs.Run.{Progress, going, over, run, kept}
+use Rattle.machine.specs.Run.{Progress, going, over, run, disclosed}
 use Rattle.calls.specs.Calls.{Call, load, begin, advance, answer, abandon, writeBack, rewrite, check}
 use Rattle.calls.specs.declared.Verdict.{Verdict}
 use Rattle.calls.specs.declared.Verdict.the-variants.{Done, Refused}
@@ -51,7 +51,7 @@ module _ (f : List ℕ) (h : Header) (e : checkFile f ≡ checked.Accepted h) (a
   does-alike p l = on (decLt p (h .boxes))
     where
       on : Dec (p < h .boxes) → meaning (otherThan (h .edition)) (decode (boxOf (tableOf f) p)) ≡ meaning (h .edition) (decode (boxOf (tableOf f) p))
-      on (yes below) = meant-alike _ (boxOf (tableOf f) p) (all p below) (other-is (h .edition) (accepted f h e .edition))
+      on (yes below) = meant-alike _ (boxOf (tableOf f) p) (all p below) (other-is (h .edition) (passes f h e .edition))
       on (no past) =
           let o = obeys-rules f h e in
           past-halts (h .edition) (otherThan (h .edition)) (boxOf (tableOf f) p)
@@ -72,14 +72,14 @@ ends-alike f g c mode inputs allowed limit =
     let h = headerOf f in
     ap (λ (k : Header). whole k (tableOf g) mode inputs allowed limit) (made-header f g m)
     ∙ ap (λ (t : List ℕ). whole (inOther h) t mode inputs allowed limit) (made-table f g m)
-    ∙ ap (λ (fl : ℕ → Box). finish (kept (modeOf mode) (run fl limit (going (startOf mode inputs allowed limit h))))) (one-flow f h (m .checks) (m .all))
+    ∙ ap (λ (fl : ℕ → Box). finish (disclosed (modeOf mode) (run fl limit (going (startOf mode inputs allowed limit h))))) (one-flow f h (m .checks) (m .all))
 
 -- The runner with its chart said to be of another edition.
 abbrev recast : ℕ → Runner → Runner
 recast edition r =
     runnerOf
     (record { header = record { edition = edition; inputs = r .header .inputs; boxes = r .header .boxes; first = r .header .first }; table = r .table })
-    (runIn r) (r .state) (r .took) (r .value) (r .named)
+    (runIn r) (r .state) (r .total) (r .value) (r .named)
 
 -- Two runners that differ in nothing, or in the edition alone where that changes nothing of what
 -- the boxes do.
@@ -101,7 +101,7 @@ check-alike rewrite edition r hides = rw hides refl
 -- What a run comes to is the same.
 module _ (edition : ℕ) (r : Runner) (same : flow edition (r .table) ≡ flowIn r) where
   ran-alike : (m : ℕ) → ran m (recast edition r) ≡ ran m r
-  ran-alike m = ap (λ (fl : ℕ → Box). kept (modeOf (r .mode)) (run fl m (going (runIn r)))) same
+  ran-alike m = ap (λ (fl : ℕ → Box). disclosed (modeOf (r .mode)) (run fl m (going (runIn r)))) same
 
   resumed-same : (p : Progress) → SameButEdition (resumed p r) (resumed p (recast edition r))
   unfolding resumed endedWith

@@ -16,7 +16,7 @@ use Rattle.format.specs.declared.Header.{Header}
 use Rattle.format.specs.declared.Refusal.{Refusal}
 use Rattle.format.specs.declared.Checked.{Checked}
 use Rattle.format.specs.declared.Checked.the-variants.{Accepted, Refused}
-use Rattle.format.proofs.Accepted.{accepted, refused-at-most-six}
+use Rattle.format.proofs.Passes.{passes, refused-at-most-six}
 use Rattle.format.proofs.Search.{all-hold, none-fails, first-is, first-says}
 use Rattle.chart.specs.Chart.{tableOf, fileOf}
 use Rattle.chart.specs.WriteBack.{fileLength, withFile}
@@ -129,7 +129,7 @@ made f g c = on (checkAfter (checkFile f) (tableOf f) (length (c .buffer))) refl
         let size : written.Length (fileLength h) ≡ written.Length (length g) = sym (ap (λ (z : Conversion). z .told) does) ∙ c .told in
         let same : length (otherFile f h) ≡ length g = cc (long, size) in
         let front = sym (c .front) ∙ ap (λ (z : Conversion). take (length g) (z .buffer)) does ∙ take-at (otherFile f h) (drop (fileLength h) (c .buffer)) (length g) same in
-        let is = accepted f h (a .1) .header in
+        let is = passes f h (a .1) .header in
         record { checks = rw is at (a .1); all = rw is at all; file = rw is at front }
     on (Refused x) e =
         let does = by-answer f (c .buffer) e in
@@ -142,7 +142,7 @@ module _ (f g : List ℕ) (m : Made f g) where
   accepts = ap checkFile (m .file) ∙ other-accepted f (headerOf f) (m .checks) (m .all)
 
   pub made-header : headerOf g ≡ inOther (headerOf f)
-  made-header = sym (accepted g (inOther (headerOf f)) accepts .header)
+  made-header = sym (passes g (inOther (headerOf f)) accepts .header)
 
   pub made-table : tableOf g ≡ tableOf f
   made-table = ap tableOf (m .file) ∙ other-table f (headerOf f) (m .checks) (m .all)
@@ -158,7 +158,7 @@ converts-to-other f g c =
     record {
       accepted = m .checks;
       accepted′ = made-accepted f g m;
-      editions = rw edition (other-is (headerOf f .edition) (accepted f (headerOf f) (m .checks) .edition));
+      editions = rw edition (other-is (headerOf f .edition) (passes f (headerOf f) (m .checks) .edition));
       inputs = ap (λ (h : Header). h .inputs) header;
       boxes = ap (λ (h : Header). h .boxes) header;
       first = ap (λ (h : Header). h .first) header;
@@ -186,7 +186,7 @@ module _ (f : List ℕ) (e : checkFile f ≡ Accepted (headerOf f)) where
   h = headerOf f
 
   edition : isEdition (h .edition) ≡ true
-  edition = accepted f h e .edition
+  edition = passes f h e .edition
 
   abbrev test : ℕ → Bool
   test = takesBox (otherThan (h .edition)) (tableOf f)
@@ -253,7 +253,7 @@ accepts-where : (f buffer : List ℕ) (p : ℕ) → convert f buffer .told ≡ w
 accepts-where f buffer p told = on (checkFile f) refl
   where
     on : (c : Checked) → checkFile f ≡ c → checkFile f ≡ Accepted (headerOf f)
-    on (Accepted h) e = e ∙ ap Accepted (accepted f h e .header)
+    on (Accepted h) e = e ∙ ap Accepted (passes f h e .header)
     on (Refused x) e =
         let number = ap (λ (y : Refusal). y .number) (refused-once (sym (refused-as-loaded f buffer x e) ∙ told)) in
         absurd (let few = refused-at-most-six f x e in omega arith)

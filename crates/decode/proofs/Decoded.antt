@@ -12,7 +12,7 @@ use lib.Dec.{leb}
 use borrow.Author.Tests.{le-leb, lt-leb, leb-true, leb-false, ne-eqb}
 use Rattle.boxes.specs.Bytes.{at, part, boxOf}
 use Rattle.boxes.proofs.Places.{part-byte}
-use Rattle.decode.specs.Decode.{word, decode, boxFrom, boxAt}
+use Rattle.decode.specs.Decode.{littleEndian, decode, boxFrom, boxAt}
 use Rattle.decode.specs.declared.FlowBox.the-variants.{Assign, Decide, Halt, Choose}
 
 module _ (t : List ℕ) (i n : ℕ) (is : i ≡ n) (h : n ≤ 2030) where
@@ -42,7 +42,7 @@ module _ (t : List ℕ) (i n : ℕ) (is : i ≡ n) (h : n ≤ 2030) where
 
   pub assign-at : (k : ℕ)
       → at t i ≡ 1
-      → k ≡ word (at t (i + 6)) (at t (i + 7)) (at t (i + 8)) (at t (i + 9))
+      → k ≡ littleEndian (at t (i + 6)) (at t (i + 7)) (at t (i + 8)) (at t (i + 9))
       → Assign (at t (i + 1)) (at t (i + 2)) (at t (i + 3)) (at t (i + 4)) (at t (i + 5)) k
       ≡ boxFrom t n
   unfolding decode

@@ -10,8 +10,8 @@ use Rattle.decode.specs.declared.FlowBox.{FlowBox}
 use Rattle.decode.specs.declared.FlowBox.the-variants.{Assign, Decide, Halt, Choose}
 
 -- "constant, low byte first".
-abbrev pub word : ℕ → ℕ → ℕ → ℕ → ℕ
-word a b c d = a + 256 * b + 65536 * c + 16777216 * d
+abbrev pub littleEndian : ℕ → ℕ → ℕ → ℕ → ℕ
+littleEndian a b c d = a + 256 * b + 65536 * c + 16777216 * d
 
 -- The box of ten bytes. "Assignment: 0 kind 1; 1 target ..; 2 operation; 3 left; 4 right; 5 next
 -- box; 6 to 9 constant"; "Decision: 0 kind 2; .. 2 comparison ..; 3 left; 4 right; 5 next if true;
@@ -20,7 +20,7 @@ word a b c d = a + 256 * b + 65536 * c + 16777216 * d
 -- edition; load takes it in edition 2 alone.
 unfoldable pub decode : List ℕ → FlowBox
 decode b =
-    cond (eqb (at b 0) 1) (Assign (at b 1) (at b 2) (at b 3) (at b 4) (at b 5) (word (at b 6) (at b 7) (at b 8) (at b 9)))
+    cond (eqb (at b 0) 1) (Assign (at b 1) (at b 2) (at b 3) (at b 4) (at b 5) (littleEndian (at b 6) (at b 7) (at b 8) (at b 9)))
     (cond (eqb (at b 0) 2) (Decide (at b 2) (at b 3) (at b 4) (at b 5) (at b 6))
     (cond (eqb (at b 0) 4) (Choose (at b 1) (at b 2) (at b 3) (at b 4) (at b 5) (at b 6) (at b 7)) Halt))
 

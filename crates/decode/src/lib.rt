@@ -1,7 +1,7 @@
 // The box at a place of the table, ten bytes.
 ghost use Prim.Native.Nat.{_*_, min};
 ghost use mathlib.Core.Path.{_≡_};
-ghost use Rattle.decode.specs.Decode.{word, boxFrom};
+ghost use Rattle.decode.specs.Decode.{littleEndian, boxFrom};
 
 pub enum FlowBox {
     Assign {
@@ -33,8 +33,8 @@ pub enum FlowBox {
 }
 
 // Four bytes, low byte first.
-fn word(a: u8, b: u8, c: u8, d: u8) -> u32
-    ensures { λ r. ⌜ r ≡ word a b c d ⌝ }
+fn little_endian(a: u8, b: u8, c: u8, d: u8) -> u32
+    ensures { λ r. ⌜ r ≡ littleEndian a b c d ⌝ }
 {
     (a as u32) + 256 * (b as u32) + 65536 * (c as u32) + 16777216 * (d as u32)
 }
@@ -71,7 +71,7 @@ pub fn box_at(table: &[u8; 2040], half: usize) -> FlowBox
     // The number of the next box is read before anything is asked, since the next box waits for it.
     let next = table[i + 5];
     if kind == 1 {
-        let constant = word(table[i + 6], table[i + 7], table[i + 8], table[i + 9]);
+        let constant = little_endian(table[i + 6], table[i + 7], table[i + 8], table[i + 9]);
         return FlowBox::Assign {
             target: table[i + 1],
             op: table[i + 2],

@@ -11,7 +11,7 @@ use Rattle.runner.specs.Outcomes.{done, chart, ended, ending}
 use Rattle.chart_claims.specs.Exchanged.{rearranged, inPlaceOf}
 use Rattle.examples.specs.Cases.{Given, told, number, gives, replied, expected}
 use Rattle.examples.specs.Files.{fileCases, FileExamples}
-use Rattle.examples.specs.Runs.{markedCases, MarkedCases, namingCases, NamingCases, hiddenCases, HiddenCases}
+use Rattle.examples.specs.Runs.{paperCases, PaperCases, namingCases, NamingCases, hiddenCases, HiddenCases}
 use Rattle.examples.specs.Editions.{editionCases, EditionCases}
 use Rattle.examples.specs.Checks.{threeOne, threeTwo, checkCases, CheckCases, BlocksExchanged}
 use Rattle.examples.specs.Conversions.{chartATwo, conversionCases, ConversionCases}
@@ -38,11 +38,11 @@ itself x l = let e : x + (2 ^ 32 - x) ≡ 2 ^ 32 = omega arith in ap (λ (n : �
 -- What is expected but for those two rows: the value that chart D ends with, and the one bits.
 rows : ℕ → ℕ → ℕ → List Given
 rows x value bits =
-    set (set (map expected (markedCases x)) 9 (told (replied (chart 1 2 ∷ done ∷ ended 2 ∷ ending (valued value) 2 ∷ [])))) 17 (number bits)
+    set (set (map expected (paperCases x)) 9 (told (replied (chart 1 2 ∷ done ∷ ended 2 ∷ ending (valued value) 2 ∷ [])))) 17 (number bits)
 
-pub marked-cases : MarkedCases
-unfolding runs-open gives expected markedCases rows
-marked-cases x l = (refl, ap (λ (v : ℕ). rows x v (ones 4294967295)) (itself x l) ∙ ap (rows x 0) all-ones)
+pub paper-cases : PaperCases
+unfolding runs-open gives expected paperCases rows
+paper-cases x l = (refl, ap (λ (v : ℕ). rows x v (ones 4294967295)) (itself x l) ∙ ap (rows x 0) all-ones)
 
 pub naming-cases : NamingCases
 unfolding runs-open gives expected namingCases

@@ -14,7 +14,7 @@ use Rattle.operations.specs.Operation.{readBy, valueOfLeft, sum, difference, qu
 use Rattle.marks.specs.Marks.{modeOf, union}
 use Rattle.decode.specs.Decode.{decode, boxFrom, meaning}
 use Rattle.machine.specs.Act.{actBy}
-use Rattle.machine.specs.Run.{goesOn, settle, onward, run, kept}
+use Rattle.machine.specs.Run.{goesOn, settle, onward, run, disclosed}
 use Rattle.begin.specs.Begin.{effective, firstVars, withheldMark, withheldMarks, firstMarks}
 use Rattle.calls.specs.Calls.{fileVerdict, check}
 use Rattle.runner.specs.State.{newRunner, endedWith, dropped, resumed}
@@ -51,7 +51,7 @@ unfolding modeOf union
 marks-open = tt
 
 unfoldable pub boxes-open : Unit {0}
-unfolding values-open marks-open actBy goesOn settle onward run kept
+unfolding values-open marks-open actBy goesOn settle onward run disclosed
 boxes-open = tt
 
 unfoldable pub begins-open : Unit {0}

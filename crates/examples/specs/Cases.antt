@@ -12,7 +12,7 @@ use Rattle.chart.specs.declared.Written.{Written}
 use Rattle.convert.specs.Convert.{Conversion, conversion, convert}
 use Rattle.operations.specs.Operation.{readBy, valueOf}
 use Rattle.marks.specs.Marks.{union, setBy}
-use Rattle.marks.specs.declared.Numbers.{Numbers}
+use Rattle.marks.specs.declared.Masks.{Masks}
 use Rattle.machine.specs.Run.{Ending}
 use Rattle.begin.specs.Begin.{effective}
 use Rattle.calls.specs.Calls.{load, begin, advance, answer, writeBack, rewrite}
@@ -36,7 +36,7 @@ pub data Case : Type 0 where
   runsRewritten : (file : List ℕ) (mode : ℕ) (inputs : List ℕ) (allowed limit : ℕ) → Ending → (steps : ℕ) → Case
   operates : (edition op left right result : ℕ) → Case
   checks : (added : ℕ) (block : List ℕ) (check : ℕ) → Case
-  sets : Numbers → (before : ℕ) (read : List ℕ) (set : ℕ) → Case
+  sets : Masks → (before : ℕ) (read : List ℕ) (set : ℕ) → Case
 
 -- What a case gives: the answer of the checks, a conversion, what calls tell, or a number.
 pub data Given : Type 0 where
@@ -60,7 +60,7 @@ gives (runsRewritten file mode inputs allowed limit e steps) =
     told (tells (load file ∷ rewrite ∷ begin mode inputs allowed limit ∷ advance (effective limit) ∷ answer ∷ []) newRunner)
 gives (operates edition op left right result) = number (valueOf edition op 0 (readBy edition op left right))
 gives (checks added block check) = number (checksum added block)
-gives (sets numbers before read set) = number (setBy numbers before (union read))
+gives (sets masks before read set) = number (setBy masks before (union read))
 
 -- Replies where no byte is lent to be written.
 abbrev pub replied : List Reply → List Told
@@ -82,22 +82,22 @@ abbrev stepsAtTheEnd : (mode steps : ℕ) → ℕ
 stepsAtTheEnd mode steps = cond (eqb mode highWater) 0 steps
 
 -- What load tells of a file that it accepts.
-abbrev loaded : List ℕ → Reply
-loaded file = chart (headerOf file .inputs) (headerOf file .boxes)
+abbrev chartReply : List ℕ → Reply
+chartReply file = chart (headerOf file .inputs) (headerOf file .boxes)
 
 -- What they are to give.
 unfoldable pub expected : Case → Given
 expected (answers file so) = checked so
-expected (returns file) = told (record { reply = loaded file; buffer = [] } ∷ record { reply = wrote (length file); buffer = file } ∷ [])
-expected (rewrites file new) = told (replied (loaded file ∷ done ∷ []) ++ (record { reply = wrote (length file); buffer = new } ∷ []))
+expected (returns file) = told (record { reply = chartReply file; buffer = [] } ∷ record { reply = wrote (length file); buffer = file } ∷ [])
+expected (rewrites file new) = told (replied (chartReply file ∷ done ∷ []) ++ (record { reply = wrote (length file); buffer = new } ∷ []))
 expected (converts file buffer so end) = converted (conversion so end)
 expected (runs file mode inputs allowed limit e steps) =
-    told (replied (loaded file ∷ done ∷ ended (stepsAtTheEnd mode steps) ∷ ending e steps ∷ []))
+    told (replied (chartReply file ∷ done ∷ ended (stepsAtTheEnd mode steps) ∷ ending e steps ∷ []))
 expected (runsRewritten file mode inputs allowed limit e steps) =
-    told (replied (loaded file ∷ done ∷ done ∷ ended (stepsAtTheEnd mode steps) ∷ ending e steps ∷ []))
+    told (replied (chartReply file ∷ done ∷ done ∷ ended (stepsAtTheEnd mode steps) ∷ ending e steps ∷ []))
 expected (operates edition op left right result) = number result
 expected (checks added block check) = number check
-expected (sets numbers before read set) = number set
+expected (sets masks before read set) = number set
 
 -- A table of so many cases, each of which gives what is expected.
 abbrev pub Table : ℕ → List Case → Type 0

@@ -20,8 +20,8 @@ assign target op left right next constant = 1 ∷ target ∷ op ∷ left ∷ rig
 abbrev pub decide : (comparison left right next other : ℕ) → List ℕ
 decide comparison left right next other = 2 ∷ 0 ∷ comparison ∷ left ∷ right ∷ next ∷ other ∷ 0 ∷ 0 ∷ 0 ∷ []
 
-abbrev pub choose : (target comparison left right next one other : ℕ) → List ℕ
-choose target comparison left right next one other = 4 ∷ target ∷ comparison ∷ left ∷ right ∷ next ∷ one ∷ other ∷ 0 ∷ 0 ∷ []
+abbrev pub choice : (target comparison left right next one other : ℕ) → List ℕ
+choice target comparison left right next one other = 4 ∷ target ∷ comparison ∷ left ∷ right ∷ next ∷ one ∷ other ∷ 0 ∷ 0 ∷ []
 
 abbrev pub halt : List ℕ
 halt = 3 ∷ replicate 9 0

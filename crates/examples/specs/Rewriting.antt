@@ -6,7 +6,7 @@ use mathlib.Core.List.{List, [], _∷_, _++_}
 use Rattle.format.specs.File.{refusal}
 use Rattle.chart.specs.declared.Written.the-variants.{Refused}
 use Rattle.machine.specs.Run.{valued, notice, spent}
-use Rattle.examples.specs.Charts.{block, front, assign, decide, choose, halt}
+use Rattle.examples.specs.Charts.{block, front, assign, decide, choice, halt}
 use Rattle.examples.specs.Cases.{Case, answers, returns, rewrites, converts, runs, runsRewritten, bare, surveillance, highWater, Table}
 use Rattle.examples.specs.Files.{accepted, refused}
 
@@ -17,7 +17,7 @@ withHalt box low = block (front 2 4 2 0) 87 3 ++ block (box ++ halt) low 2
 
 -- 31 is input 2 where input 0 equals input 1, and else input 3.
 unfoldable pub chartChoice : List ℕ
-chartChoice = withHalt (choose 31 0 0 1 1 2 3) 147
+chartChoice = withHalt (choice 31 0 0 1 1 2 3) 147
 
 -- k 1, in edition 2: so many boxes. The check of block 0 has high byte 3.
 abbrev oneInput : (n : ℕ) (boxes : List ℕ) (low low′ high′ : ℕ) → List ℕ
@@ -32,7 +32,7 @@ unfoldable pub chartFork : List ℕ
 chartFork = oneInput 5 (decide 0 0 16 1 2 ++ afterFork) 90 92 13
 
 unfoldable pub chartForkNew : List ℕ
-chartForkNew = oneInput 5 (choose 17 0 0 16 3 18 19 ++ afterFork) 90 148 14
+chartForkNew = oneInput 5 (choice 17 0 0 16 3 18 19 ++ afterFork) 90 148 14
 
 -- Box 0 decides between two boxes, and box 3 halts.
 abbrev between : (decision one other : List ℕ) (low high : ℕ) → List ℕ
@@ -50,12 +50,12 @@ abbrev chain : List ℕ
 chain = oneInput 6 (decide 0 0 16 1 2 ++ decide 1 0 16 3 4 ++ copies) 97 103 21
 
 abbrev chainNew : List ℕ
-chainNew = oneInput 6 (decide 0 0 16 1 2 ++ choose 17 1 0 16 5 19 20 ++ copies) 97 208 24
+chainNew = oneInput 6 (decide 0 0 16 1 2 ++ choice 17 1 0 16 5 19 20 ++ copies) 97 208 24
 
 -- A decision between a box of kind 4, whose comparison is 1, and a copy with its target and next.
 abbrev toChoice : List ℕ
 toChoice =
-    block (front 2 0 4 0) 77 3 ++ block (decide 1 16 16 1 2 ++ choose 31 1 16 16 3 17 17 ++ assign 31 1 16 0 3 0 ++ halt) 169 13
+    block (front 2 0 4 0) 77 3 ++ block (decide 1 16 16 1 2 ++ choice 31 1 16 16 3 17 17 ++ assign 31 1 16 0 3 0 ++ halt) 169 13
 
 -- A loop: box 1 is replaced, and run once a turn; box 5 goes back to it while 16 is not greater
 -- than the input.
@@ -66,7 +66,7 @@ unfoldable pub chartTurns : List ℕ
 chartTurns = oneInput 7 (assign 18 0 0 0 1 1 ++ decide 0 16 0 2 3 ++ turn) 104 176 31
 
 abbrev turnsNew : List ℕ
-turnsNew = oneInput 7 (assign 18 0 0 0 1 1 ++ choose 31 0 16 0 4 16 18 ++ turn) 104 123 35
+turnsNew = oneInput 7 (assign 18 0 0 0 1 1 ++ choice 31 0 16 0 4 16 18 ++ turn) 104 123 35
 
 -- 31 copies 16 or, never, the input.
 unfoldable pub chartNever : List ℕ
@@ -74,7 +74,7 @@ chartNever = between (decide 0 16 16 1 2) (assign 31 1 16 0 3 0) (assign 31 1 0 
 
 -- 31, which copies the input, is then 17 either way.
 abbrev overwritten : List ℕ
-overwritten = oneInput 3 (assign 31 1 0 0 1 0 ++ choose 31 0 16 16 2 17 17 ++ halt) 76 105 8
+overwritten = oneInput 3 (assign 31 1 0 0 1 0 ++ choice 31 0 16 16 2 17 17 ++ halt) 76 105 8
 
 abbrev inputs : List ℕ
 inputs = 5 ∷ 5 ∷ 7 ∷ 9 ∷ []
@@ -84,14 +84,14 @@ rewritingCases =
     -- kind 4 loads in edition 2 and is 6 in edition 1; an operand at k or above, target 15,
     -- comparison 3, next n and byte 9 are 6
     answers chartChoice (accepted 2 4 2 0)
-    ∷ answers (block (front 1 4 2 0) 82 3 ++ block (choose 31 0 0 1 1 2 3 ++ halt) 148 0) (refused 6 0)
-    ∷ answers (withHalt (choose 31 0 4 1 1 2 3) 163) (refused 6 0)
-    ∷ answers (withHalt (choose 31 0 0 15 1 2 3) 217) (refused 6 0)
-    ∷ answers (withHalt (choose 31 0 0 1 1 4 3) 161) (refused 6 0)
-    ∷ answers (withHalt (choose 31 0 0 1 1 2 15) 243) (refused 6 0)
-    ∷ answers (withHalt (choose 15 0 0 1 1 2 3) 115) (refused 6 0)
-    ∷ answers (withHalt (choose 31 3 0 1 1 2 3) 156) (refused 6 0)
-    ∷ answers (withHalt (choose 31 0 0 1 2 2 3) 153) (refused 6 0)
+    ∷ answers (block (front 1 4 2 0) 82 3 ++ block (choice 31 0 0 1 1 2 3 ++ halt) 148 0) (refused 6 0)
+    ∷ answers (withHalt (choice 31 0 4 1 1 2 3) 163) (refused 6 0)
+    ∷ answers (withHalt (choice 31 0 0 15 1 2 3) 217) (refused 6 0)
+    ∷ answers (withHalt (choice 31 0 0 1 1 4 3) 161) (refused 6 0)
+    ∷ answers (withHalt (choice 31 0 0 1 1 2 15) 243) (refused 6 0)
+    ∷ answers (withHalt (choice 15 0 0 1 1 2 3) 115) (refused 6 0)
+    ∷ answers (withHalt (choice 31 3 0 1 1 2 3) 156) (refused 6 0)
+    ∷ answers (withHalt (choice 31 0 0 1 2 2 3) 153) (refused 6 0)
     ∷ answers (withHalt (4 ∷ 31 ∷ 0 ∷ 0 ∷ 1 ∷ 1 ∷ 2 ∷ 3 ∷ 0 ∷ 1 ∷ []) 157) (refused 6 0)
     ∷ returns chartChoice
     ∷ converts chartChoice [] (Refused (refusal 14 0)) []
@@ -111,7 +111,7 @@ rewritingCases =
     -- a decision between copies is replaced, and its copies stay
     ∷ rewrites chartFork chartForkNew
     -- and where they have the same bytes: next boxes differ by their numbers
-    ∷ rewrites (between (decide 2 0 16 2 1) copy18 copy18 119 8) (between (choose 17 2 0 16 3 18 18) copy18 copy18 168 9)
+    ∷ rewrites (between (decide 2 0 16 2 1) copy18 copy18 119 8) (between (choice 17 2 0 16 3 18 18) copy18 copy18 168 9)
     -- it stays where the next boxes are one, have other targets, another next, or another operation
     ∷ rewrites (between (decide 0 0 16 1 1) copy18 (assign 17 1 19 0 3 0) 131 8) (between (decide 0 0 16 1 1) copy18 (assign 17 1 19 0 3 0) 131 8)
     ∷ rewrites (between (decide 0 0 16 1 2) copy18 (assign 18 1 18 0 3 0) 136 8) (between (decide 0 0 16 1 2) copy18 (assign 18 1 18 0 3 0) 136 8)

@@ -11,8 +11,8 @@ use Rattle.examples.specs.Cases.{Case, runs, operates, checks, bare, sur
 -- The cases, where x is the input of D and of E, of which 01 says nothing. The sets that notices
 -- carry are 02's, a; and by 02, b, "01's charts .. change accordingly": a high-water notice tells 0
 -- steps.
-unfoldable pub markedCases : ℕ → List Case
-markedCases x =
+unfoldable pub paperCases : ℕ → List Case
+paperCases x =
     -- "A .. Inputs 7 and 9, allowed 2. (P) Surveillance: value 9, 3 steps. (P) High-water: notice,
     -- 3."
     runs chartA surveillance (7 ∷ 9 ∷ []) 2 0 (valued 9) 3
@@ -42,8 +42,8 @@ markedCases x =
     ∷ []
 
 -- All that 01 marks (P): the eighteen cases, whatever 32-bit number is the input of D and of E.
-abbrev pub MarkedCases : Type 0
-MarkedCases = (x : ℕ) → x < 2 ^ 32 → Table 18 (markedCases x)
+abbrev pub PaperCases : Type 0
+PaperCases = (x : ℕ) → x < 2 ^ 32 → Table 18 (paperCases x)
 
 -- The inputs that notices name (02, a).
 unfoldable pub namingCases : List Case

@@ -1,6 +1,6 @@
 // Worked examples of the definitions, in specs/ and proofs/, and one function that holds them.
 ghost use Rattle.examples.specs.Files.{FileExamples};
-ghost use Rattle.examples.specs.Runs.{MarkedCases, NamingCases, HiddenCases};
+ghost use Rattle.examples.specs.Runs.{PaperCases, NamingCases, HiddenCases};
 ghost use Rattle.examples.specs.Editions.{EditionCases};
 ghost use Rattle.examples.specs.Checks.{CheckCases, BlocksExchanged};
 ghost use Rattle.examples.specs.Conversions.{ConversionCases};
@@ -17,7 +17,7 @@ ghost use Rattle.examples.specs.Witnesses.{ConversionIsMet, RewritingIsM
 // theorems could be deleted, and nothing would fail.
 pub fn promised()
     ensures { λ _. ⌜
-        FileExamples × MarkedCases × NamingCases × HiddenCases × EditionCases × CheckCases × ConversionCases × RewritingCases × KeepingCases × BlocksExchanged
+        FileExamples × PaperCases × NamingCases × HiddenCases × EditionCases × CheckCases × ConversionCases × RewritingCases × KeepingCases × BlocksExchanged
         × BareIsNotSecret × AnotherModeIsTold × AnotherLimitIsTold × BareAnswersMore × SmallerLimitAnswersLess × AdvancesPartAtTheEnd × NoLoadDuringARun × AnotherLoadIsTold × HighWaterNamesNone × SurveillanceNamesSome
         × HighWaterAdvancesPart × HighWaterSumEndsNothing × HighWaterCountsNoBoxes × SurveillanceTellsCounts × WrittenBackIsTold × EditionsEndApart × RewritingIsTold × RewritingBetweenIsTold × GuardedMayLose × DrawnDoNotCount
         × SecrecyIsMet × NoticeIsTold × SecondEditionIsMet × ChoiceIsMet × CountsAreHidden × AdvancesAreWhole × AnsweringIsMet × ConversionIsMet × RewritingIsMet × RewritingInOrder

@@ -5,4 +5,4 @@ pub mod Seals
 pub mod Places
 pub mod Checks
 pub mod Ranges
-pub mod Accepted
+pub mod Passes

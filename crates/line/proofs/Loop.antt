@@ -11,7 +11,7 @@ use borrow.Author.Tests.{lt-ltb, le-ltb, eq-eqb, ne-eqb}
 use Rattle.lists.proofs.Stores.{fill}
 use Rattle.line.specs.Parsing.{numbersOf, parse}
 use Rattle.line.specs.declared.parsing.Numbers.{Numbers}
-use Rattle.line.proofs.Scan.{onward, taken}
+use Rattle.line.proofs.Scan.{extended, taken}
 use Rattle.line.proofs.Parsed.{parsed}
 
 -- The numbers stand at the front of 19 places, zeros after them, and what is left of the line leads
@@ -55,7 +55,7 @@ module _ {line n : List ℕ} {c v d i : ℕ} (h : Holds line n c v d i) where
     unfolding taken
     no-place b e q = ill (rw (eq-eqb (getD line i 0) 32 b, ne-eqb d 0 e, eq-eqb (length done) 18 (many ∙ q)) refl)
 
-    pub no-byte : (getD line i 0 ≡ 32 → ⊥) → (next : ℕ) → next ≡ onward v d (getD line i 0) → 4294967295 < next → numbersOf [] ≡ parse line
+    pub no-byte : (getD line i 0 ≡ 32 → ⊥) → (next : ℕ) → next ≡ extended v d (getD line i 0) → 4294967295 < next → numbersOf [] ≡ parse line
     unfolding taken
     no-byte b next e q = ill (rw (ne-eqb (getD line i 0) 32 b, sym e, lt-ltb 4294967295 next q) refl)
 
@@ -75,7 +75,7 @@ module _ {line n : List ℕ} {c v d i : ℕ} (h : Holds line n c v d i) where
           leads = ap (λ (p : List ℕ). taken p 0 0 (drop (i + 1) line)) front ∙ sym goes ∙ ap (taken done v d) (sym left) ∙ h .leads;
         }
 
-    pub at-byte : (getD line i 0 ≡ 32 → ⊥) → (next : ℕ) → next ≡ onward v d (getD line i 0) → next ≤ 4294967295 → Holds line n c next (d + 1) (i + 1)
+    pub at-byte : (getD line i 0 ≡ 32 → ⊥) → (next : ℕ) → next ≡ extended v d (getD line i 0) → next ≤ 4294967295 → Holds line n c next (d + 1) (i + 1)
     unfolding taken
     at-byte b next e q =
         let goes : taken done v d (getD line i 0 ∷ drop (i + 1) line) ≡ taken done next (suc d) (drop (i + 1) line)

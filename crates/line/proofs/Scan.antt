@@ -16,15 +16,15 @@ use Rattle.line.specs.declared.parsing.Numbers.{Numbers}
 abbrev pub follows : ℕ → ℕ → ℕ → Bool
 follows v d b = isDigit b && not (not (eqb d 0) && eqb v 0) && leb (10 * v + (b - 48)) 4294967295
 
-abbrev pub onward : ℕ → ℕ → ℕ → ℕ
-onward v d b = cond (follows v d b) (10 * v + (b - 48)) 4294967296
+abbrev pub extended : ℕ → ℕ → ℕ → ℕ
+extended v d b = cond (follows v d b) (10 * v + (b - 48)) 4294967296
 
 unfoldable pub taken : List ℕ → ℕ → ℕ → List ℕ → Numbers
 taken ns v d [] = cond (eqb d 0) (numbersOf []) (cond (ltb (length ns) 2) (numbersOf []) (numbersOf (ns ++ (v ∷ []))))
 taken ns v d (b ∷ bytes) =
     cond (eqb b 32)
     (cond (eqb d 0) (numbersOf []) (cond (eqb (length ns) 18) (numbersOf []) (taken (ns ++ (v ∷ [])) 0 0 bytes)))
-    (cond (ltb 4294967295 (onward v d b)) (numbersOf []) (taken ns (onward v d b) (suc d) bytes))
+    (cond (ltb 4294967295 (extended v d b)) (numbersOf []) (taken ns (extended v d b) (suc d) bytes))
 
 pub digit-from : (b : ℕ) → isDigit b ≡ true → 48 ≤ b
 unfolding isDigit
@@ -32,14 +32,14 @@ digit-from b e = leb-true 48 b (and-left (leb 48 b) (leb b 57) e)
 
 -- What a byte makes of the number, by its three tests.
 module _ (v d b : ℕ) where
-  pub no-digit : isDigit b ≡ false → 4294967296 ≡ onward v d b
+  pub no-digit : isDigit b ≡ false → 4294967296 ≡ extended v d b
   no-digit e = rw e
 
-  pub after-zero : isDigit b ≡ true → (not (eqb d 0) && eqb v 0) ≡ true → 4294967296 ≡ onward v d b
+  pub after-zero : isDigit b ≡ true → (not (eqb d 0) && eqb v 0) ≡ true → 4294967296 ≡ extended v d b
   after-zero e z = rw (e, z)
 
-  pub too-large : isDigit b ≡ true → (not (eqb d 0) && eqb v 0) ≡ false → 4294967295 < 10 * v + (b - 48) → 4294967296 ≡ onward v d b
+  pub too-large : isDigit b ≡ true → (not (eqb d 0) && eqb v 0) ≡ false → 4294967295 < 10 * v + (b - 48) → 4294967296 ≡ extended v d b
   too-large e z l = rw (e, z, lt-leb (10 * v + (b - 48)) 4294967295 l)
 
-  pub goes-on : isDigit b ≡ true → (not (eqb d 0) && eqb v 0) ≡ false → 10 * v + (b - 48) ≤ 4294967295 → 10 * v + (b - 48) ≡ onward v d b
+  pub goes-on : isDigit b ≡ true → (not (eqb d 0) && eqb v 0) ≡ false → 10 * v + (b - 48) ≤ 4294967295 → 10 * v + (b - 48) ≡ extended v d b
   goes-on e z l = rw (e, z, le-leb (10 * v + (b - 48)) 4294967295 l)

@@ -29,7 +29,7 @@ fn is_digit(b: u8) -> bool
 
 // The number that one more byte makes of a number of so many digits; 4,294,967,296 where the byte
 // may not follow.
-fn onward(value: u64, digits: usize, b: u8) -> u64
+fn extended(value: u64, digits: usize, b: u8) -> u64
     requires { ⌜ value ≤ 4294967295 ⌝ }
     ensures { λ r. ⌜ r ≡ cond (isDigit b && not (not (eqb digits 0) && eqb value 0) && leb (10 * value + (b - 48)) 4294967295) (10 * value + (b - 48)) 4294967296 ⌝ }
 {
@@ -68,7 +68,7 @@ pub fn parse(line: &[u8]) -> Numbers
             value = 0;
             digits = 0;
         } else {
-            value = onward(value, digits, b);
+            value = extended(value, digits, b);
             if 4294967295 < value {
                 return none();
             }

@@ -11,9 +11,9 @@ use lib.ListN.{getD, set}
 use borrow.Author.Tests.{eq-eqb, ne-eqb}
 use Rattle.operations.specs.Operation.{readBy, valueOf, compares, chosen}
 use Rattle.operations.proofs.ReadLaws.{read-map}
-use Rattle.marks.specs.Marks.{marked, union, numbersOf, setBy, decisionNotice, counterMark, haltNotice, namedBy}
+use Rattle.marks.specs.Marks.{marked, union, masksOf, setBy, decisionNotice, counterMark, haltNotice, namedBy}
 use Rattle.marks.specs.declared.Mode.{Mode}
-use Rattle.marks.specs.declared.Numbers.{Numbers}
+use Rattle.marks.specs.declared.Masks.{Masks}
 use Rattle.marks.proofs.MarkLaws.{set-by-mode, set-sixteen}
 use Rattle.decode.specs.Decode.{Box, assigns, decides, halts, meaning}
 use Rattle.decode.specs.declared.FlowBox.{FlowBox}
@@ -24,9 +24,9 @@ use Rattle.machine.specs.declared.Act.the-variants.{Store, Go, Value, No
 use Rattle.machine.specs.declared.Marked.{Marked}
 
 -- What is stored where a mark was set by the numbers, of the mark that the target has.
-pub stores : (numbers : Numbers) (t v m next old before read : ℕ) → before ≡ old → m ≡ setBy numbers before read
-    → Store t v m next ≡ Store t v (setBy numbers old read) next
-stores numbers t v m next old before read o e = ap (λ (x : ℕ). Store t v x next) (e ∙ ap (λ (x : ℕ). setBy numbers x read) o)
+pub stores : (masks : Masks) (t v m next old before read : ℕ) → before ≡ old → m ≡ setBy masks before read
+    → Store t v m next ≡ Store t v (setBy masks old read) next
+stores masks t v m next old before read o e = ap (λ (x : ℕ). Store t v x next) (e ∙ ap (λ (x : ℕ). setBy masks x read) o)
 
 -- Every mark is of 16 inputs.
 abbrev pub SixteenInputs : List ℕ → Type 0
@@ -46,12 +46,12 @@ sixteen-set (x ∷ marks) (suc i) m s l (suc v) = sixteen-set marks i m (λ w. s
 
 -- By the numbers of the mode a box does what it does by the rules.
 module _ (mode : Mode) (marks : List ℕ) (s : SixteenInputs marks) where
-  pub act-by-numbers : (b : Box) (vars : List ℕ) (counter : ℕ) → actBy (setBy (numbersOf mode)) mode b vars marks counter ≡ act mode b vars marks counter
+  pub act-by-masks : (b : Box) (vars : List ℕ) (counter : ℕ) → actBy (setBy (masksOf mode)) mode b vars marks counter ≡ act mode b vars marks counter
   unfolding actBy
-  act-by-numbers (assigns t reads gives next) vars counter =
+  act-by-masks (assigns t reads gives next) vars counter =
       ap (λ (x : ℕ). Store t (gives (entries vars reads)) x next) (set-by-mode mode (entry marks t) (union (entries marks reads)) (s (t % 32)) (sixteen-union marks s reads))
-  act-by-numbers (decides reads holds next other) vars counter = refl
-  act-by-numbers halts vars counter = refl
+  act-by-masks (decides reads holds next other) vars counter = refl
+  act-by-masks halts vars counter = refl
 
 -- A mark that a box stores by the numbers of the mode is of 16 inputs again.
 abbrev pub StoresSixteen : Act → Type 0
@@ -67,7 +67,7 @@ notice-sixteen mode marks other p = by (marked marks)
     by true = tt
     by false = p
 
-pub stores-sixteen : (mode : Mode) (b : Box) (vars marks : List ℕ) (counter : ℕ) → StoresSixteen (actBy (setBy (numbersOf mode)) mode b vars marks counter)
+pub stores-sixteen : (mode : Mode) (b : Box) (vars marks : List ℕ) (counter : ℕ) → StoresSixteen (actBy (setBy (masksOf mode)) mode b vars marks counter)
 unfolding actBy
 stores-sixteen mode (assigns t reads gives next) vars marks counter = set-sixteen mode (entry marks t) (union (entries marks reads))
 stores-sixteen mode (decides reads holds next other) vars marks counter =

@@ -13,7 +13,7 @@ use Rattle.decode.specs.Decode.{Box}
 use Rattle.marks.specs.Marks.{marked, namedBy, hides}
 use Rattle.marks.specs.declared.Mode.{Mode}
 use Rattle.machine.specs.Act.{noticeOr}
-use Rattle.machine.specs.Run.{Run, Ending, valued, notice, spent, Progress, going, over, goesOn, settle, step, onward, run, kept}
+use Rattle.machine.specs.Run.{Run, Ending, valued, notice, spent, Progress, going, over, goesOn, settle, step, onward, run, disclosed}
 use Rattle.machine.specs.declared.Act.{Act}
 use Rattle.machine.specs.declared.Act.the-variants.{Store, Go, Value, Notice}
 
@@ -89,20 +89,20 @@ over-twice flow p e n steps m h = run-add flow n m p ∙ ap (run flow m) h ∙ o
 
 -- What is kept is what the run has come to, or a notice that names nothing in no steps, where
 -- counts are hidden.
-pub kept-by : (Good : Progress → Type 0) (m : Mode) (p : Progress) → Good p → (hides m ≡ true → Good (over (notice 0) 0)) → Good (kept m p)
-unfolding kept
-kept-by Good m (going q) h n = h
-kept-by Good m (over (valued v) steps) h n = h
-kept-by Good m (over (notice named) steps) h n = on (hides m) refl
+pub disclosed-by : (Good : Progress → Type 0) (m : Mode) (p : Progress) → Good p → (hides m ≡ true → Good (over (notice 0) 0)) → Good (disclosed m p)
+unfolding disclosed
+disclosed-by Good m (going q) h n = h
+disclosed-by Good m (over (valued v) steps) h n = h
+disclosed-by Good m (over (notice named) steps) h n = on (hides m) refl
   where
     on : (b : Bool) → hides m ≡ b → Good (cond b (over (notice 0) 0) (over (notice named) steps))
     on true e = n e
     on false e = h
-kept-by Good m (over spent steps) h n = on (hides m) refl
+disclosed-by Good m (over spent steps) h n = on (hides m) refl
   where
     on : (b : Bool) → hides m ≡ b → Good (cond b (over (notice 0) 0) (over spent steps))
     on true e = n e
     on false e = h
 
-pub kept-all : (m : Mode) → hides m ≡ false → (p : Progress) → kept m p ≡ p
-kept-all m e p = kept-by (λ x. x ≡ p) m p refl (λ h. absurd (true≢false (sym h ∙ e)))
+pub disclosed-all : (m : Mode) → hides m ≡ false → (p : Progress) → disclosed m p ≡ p
+disclosed-all m e p = disclosed-by (λ x. x ≡ p) m p refl (λ h. absurd (true≢false (sym h ∙ e)))

@@ -69,8 +69,8 @@ run flow (suc m) p = run flow m (onward flow p)
 
 -- What is kept of what a run has come to. 02, b: "In high-water mode a notice and a spent run now
 -- end alike: notice, steps 0, inputs 0."
-unfoldable pub kept : Mode → Progress → Progress
-kept mode (going q) = going q
-kept mode (over (valued v) steps) = over (valued v) steps
-kept mode (over (notice named) steps) = cond (hides mode) (over (notice 0) 0) (over (notice named) steps)
-kept mode (over spent steps) = cond (hides mode) (over (notice 0) 0) (over spent steps)
+unfoldable pub disclosed : Mode → Progress → Progress
+disclosed mode (going q) = going q
+disclosed mode (over (valued v) steps) = over (valued v) steps
+disclosed mode (over (notice named) steps) = cond (hides mode) (over (notice 0) 0) (over (notice named) steps)
+disclosed mode (over spent steps) = cond (hides mode) (over (notice 0) 0) (over spent steps)

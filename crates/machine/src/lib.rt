@@ -2,7 +2,7 @@
 // variables, their marks and the counter mark.
 use decode::FlowBox;
 use marks::Mode;
-use marks::Numbers;
+use marks::Masks;
 ghost use mathlib.Core.Path.{_≡_};
 ghost use mathlib.Core.List.{[], _∷_};
 ghost use Rattle.operations.specs.Operation.{readBy, valueOf, chosen};
@@ -112,17 +112,17 @@ fn choose<'a>(
 // What a box that assigns does, of what it gives: it stores the value, and sets its target's mark
 // by the numbers. It is given no mode.
 fn store<'a>(
-    numbers: Numbers,
+    masks: Masks,
     vars: &'a [u32; 32],
     marks: &'a [u16; 32],
     target: u8,
     given: Marked,
     next: u8,
 ) -> Act
-    ensures { λ r. ⌜ r ≡ Act.Store target (given .value) (setBy numbers (entry (now (marks .entry)) target) (given .mark)) next ⌝ }
+    ensures { λ r. ⌜ r ≡ Act.Store target (given .value) (setBy masks (entry (now (marks .entry)) target) (given .mark)) next ⌝ }
 {
     let before = variable(vars, marks, target);
-    let mark = marks::set_mark(numbers, before.mark, given.mark);
+    let mark = marks::set_mark(masks, before.mark, given.mark);
     Act::Store {
         target,
         value: given.value,
@@ -136,13 +136,13 @@ fn store<'a>(
 pub fn run_box<'a>(
     edition: u8,
     mode: Mode,
-    numbers: Numbers,
+    masks: Masks,
     b: FlowBox,
     vars: &'a [u32; 32],
     marks: &'a [u16; 32],
     counter: u16,
 ) -> Act
-    ensures { λ r. ⌜ r ≡ actBy (setBy numbers) mode (meaning edition b) (now (vars .entry)) (now (marks .entry)) counter ⌝ }
+    ensures { λ r. ⌜ r ≡ actBy (setBy masks) mode (meaning edition b) (now (vars .entry)) (now (marks .entry)) counter ⌝ }
 {
     match b {
         FlowBox::Assign {
@@ -156,7 +156,7 @@ pub fn run_box<'a>(
             let left = variable(vars, marks, left);
             let right = variable(vars, marks, right);
             let given = operate(edition, op, constant, left, right);
-            store(numbers, vars, marks, target, given, next)
+            store(masks, vars, marks, target, given, next)
         }
         FlowBox::Decide {
             comparison,
@@ -205,7 +205,7 @@ pub fn run_box<'a>(
             other,
         } => {
             let given = choose(vars, marks, comparison, left, right, one, other);
-            store(numbers, vars, marks, target, given, next)
+            store(masks, vars, marks, target, given, next)
         }
     }
 }

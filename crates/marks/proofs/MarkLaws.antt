@@ -10,7 +10,7 @@ use mathlib.Core.Bool.{Bool, true, false, _||_}
 use native.Mathlib.Omega.{arith}
 use lib.Bits.{bitAnd, bitOr, or-add-and, or-comm, or-zero-l, or-zero-r, and-le-l, and-le-r, or-lt, and-mask, and-zero-r}
 use borrow.Author.Tests.{eqb-true, eq-eqb, not-false}
-use Rattle.marks.specs.Marks.{marked, union, byMode, targetMark, setMark, numbersOf, setBy}
+use Rattle.marks.specs.Marks.{marked, union, byMode, targetMark, setMark, masksOf, setBy}
 use Rattle.marks.specs.declared.Mode.{Mode}
 use Rattle.marks.specs.declared.Mode.the-variants.{Bare, Surveillance, HighWater}
 
@@ -60,14 +60,14 @@ set-surveillance before read = rw (and-zero-r, or-zero-r)
 pub set-high-water : (before read : ℕ) → before < 2 ^ 16 → setMark 65535 before read ≡ targetMark HighWater before read
 set-high-water before read b = rw (and-all before b, or-comm read before)
 
-pub set-by-mode : (m : Mode) (before read : ℕ) → before < 2 ^ 16 → read < 2 ^ 16 → setBy (numbersOf m) before read ≡ targetMark m before read
+pub set-by-mode : (m : Mode) (before read : ℕ) → before < 2 ^ 16 → read < 2 ^ 16 → setBy (masksOf m) before read ≡ targetMark m before read
 set-by-mode Bare before read b r = rw (and-zero-r, or-zero-l, and-all before b)
 set-by-mode Surveillance before read b r = rw (and-all read r) (set-surveillance before read)
 set-by-mode HighWater before read b r = rw (and-all read r) (set-high-water before read b)
 
 -- By the numbers of a mode a mark is of 16 inputs, whatever is read.
-pub set-sixteen : (m : Mode) (before read : ℕ) → setBy (numbersOf m) before read < 2 ^ 16
+pub set-sixteen : (m : Mode) (before read : ℕ) → setBy (masksOf m) before read < 2 ^ 16
 set-sixteen m before read =
-    let keep : numbersOf m .keep < 2 ^ 16 = by-mode (λ k x. x < 2 ^ 16) m 65535 0 65535 (omega arith) (omega arith) (omega arith) in
-    let take : numbersOf m .take < 2 ^ 16 = by-mode (λ k x. x < 2 ^ 16) m 0 65535 65535 (omega arith) (omega arith) (omega arith) in
-    or-lt 16 (bitAnd read (numbersOf m .take)) (bitAnd before (numbersOf m .keep)) (omega (arith, and-le-r read (numbersOf m .take))) (omega (arith, and-le-r before (numbersOf m .keep)))
+    let keep : masksOf m .keep < 2 ^ 16 = by-mode (λ k x. x < 2 ^ 16) m 65535 0 65535 (omega arith) (omega arith) (omega arith) in
+    let take : masksOf m .take < 2 ^ 16 = by-mode (λ k x. x < 2 ^ 16) m 0 65535 65535 (omega arith) (omega arith) (omega arith) in
+    or-lt 16 (bitAnd read (masksOf m .take)) (bitAnd before (masksOf m .keep)) (omega (arith, and-le-r read (masksOf m .take))) (omega (arith, and-le-r before (masksOf m .keep)))

@@ -7,7 +7,7 @@ use lib.Bits.{bitAnd, bitOr}
 use lib.Dec.{eqb}
 use Rattle.marks.specs.declared.Mode.{Mode}
 use Rattle.marks.specs.declared.Mode.the-variants.{Bare, Surveillance, HighWater}
-use Rattle.marks.specs.declared.Numbers.{Numbers}
+use Rattle.marks.specs.declared.Masks.{Masks}
 
 -- "mode (0 bare, 1 surveillance, 2 high-water)". No begin with a greater number is accepted; it
 -- would read as high-water.
@@ -46,12 +46,12 @@ setMark keep before read = bitOr read (bitAnd before keep)
 
 -- The numbers of a mode: which inputs to keep, "(0 under surveillance, 65,535 under high-water)",
 -- and which to take of the sets read. Bare keeps all and takes none.
-abbrev pub numbersOf : Mode → Numbers
-numbersOf mode = record { keep = byMode mode 65535 0 65535; take = byMode mode 0 65535 65535 }
+abbrev pub masksOf : Mode → Masks
+masksOf mode = record { keep = byMode mode 65535 0 65535; take = byMode mode 0 65535 65535 }
 
 -- The new set by both numbers.
-abbrev pub setBy : Numbers → (before read : ℕ) → ℕ
-setBy numbers before read = setMark (numbers .keep) before (bitAnd read (numbers .take))
+abbrev pub setBy : Masks → (before read : ℕ) → ℕ
+setBy masks before read = setMark (masks .keep) before (bitAnd read (masks .take))
 
 -- The marks for which a decision gives a notice, 0 where it goes on. Surveillance: "A decision that
 -- reads a marked variable ends with a notice, and no comparison is made."

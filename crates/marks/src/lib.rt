@@ -2,7 +2,7 @@
 // counts are hidden. A mark is a set of withheld inputs, a number whose bit j is input j; 0 is no
 // mark.
 ghost use mathlib.Core.Path.{_≡_};
-ghost use Rattle.marks.specs.Marks.{modeOf, byMode, numbersOf, setBy, decisionNotice, counterMark, haltNotice, namedBy, hides};
+ghost use Rattle.marks.specs.Marks.{modeOf, byMode, masksOf, setBy, decisionNotice, counterMark, haltNotice, namedBy, hides};
 
 pub enum Mode {
     Bare,
@@ -34,26 +34,26 @@ fn by_mode(mode: Mode, bare: u16, surveillance: u16, high: u16) -> u16
 
 // The numbers by which an assignment in a mode sets its target's mark: which inputs it keeps of the
 // old set, and which it takes of the sets read.
-pub struct Numbers {
+pub struct Masks {
     keep: u16,
     take: u16,
 }
 
 // Bare keeps all and takes none, so that a mark stays.
-pub fn numbers_of(mode: Mode) -> Numbers
-    ensures { λ r. ⌜ r ≡ numbersOf mode ⌝ }
+pub fn masks_of(mode: Mode) -> Masks
+    ensures { λ r. ⌜ r ≡ masksOf mode ⌝ }
 {
     let keep = by_mode(mode, 65535, 0, 65535);
     let take = by_mode(mode, 0, 65535, 65535);
-    Numbers { keep, take }
+    Masks { keep, take }
 }
 
 // The mark of the target after an assignment: what is taken of the marks read, and what is kept of
 // its mark before.
-pub fn set_mark(numbers: Numbers, before: u16, read: u16) -> u16
-    ensures { λ m. ⌜ m ≡ setBy numbers before read ⌝ }
+pub fn set_mark(masks: Masks, before: u16, read: u16) -> u16
+    ensures { λ m. ⌜ m ≡ setBy masks before read ⌝ }
 {
-    (read & numbers.take) | (before & numbers.keep)
+    (read & masks.take) | (before & masks.keep)
 }
 
 // The marks for which a decision that reads these ends the run with a notice; 0 where it goes on.

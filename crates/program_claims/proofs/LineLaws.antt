@@ -19,7 +19,7 @@ use Rattle.runner.specs.Outcomes.{after, says, outcomeBy, call}
 use Rattle.claims.specs.Lists.{final}
 use Rattle.claims.proofs.RunLaws.{one-advance-ends}
 use Rattle.claims.proofs.Secrecy.{begin-permits, starts-same}
-use Rattle.reply.specs.Reply.{replyText, accepted, beginOf, runOut, answered, respond}
+use Rattle.reply.specs.Reply.{replyText, isAccepted, beginOf, runOut, answered, respond}
 use Rattle.program_claims.specs.LineClaims.{LinesEnd, LinesApart}
 
 pub lines-end : LinesEnd
@@ -33,7 +33,7 @@ module _ (r r′ : Runner) (same : chartIn r ≡ chartIn r′) (o : isRunning r 
   checks-same ns = let h : r .header ≡ r′ .header = ap (λ (c : Chart). c .header) same in rw (h, o, o′) refl
 
   answers-same : (v : Verdict) (ns : Numbers) → answered (outcomeBy v (beginOf ns) r) ≡ answered (outcomeBy v (beginOf ns) r′)
-  unfolding outcomeBy answered after says accepted
+  unfolding outcomeBy answered after says isAccepted
   answers-same Done ns =
       ap (λ (y : Runner). replyText (call answer (runOut y) .told .reply))
       (starts-same (at (ns .numbers) 0) (part (ns .numbers) 3 (ns .count - 3)) (at (ns .numbers) 1) _ _ same refl)

@@ -12,7 +12,7 @@ use borrow.Author.Tests.{ltb-true, ltb-false}
 use Rattle.runner.specs.declared.Runner.{Runner}
 use Rattle.transcript.specs.Lines.{linesIn, linesOf, wholeLines}
 use Rattle.transcript.specs.Transcript.{answers, chartLine, isChart, holder, transcript}
-use Rattle.transcript.specs.Session.{Portion, portion, feed, State, Turn, write, read, stop, kept, turn, received}
+use Rattle.transcript.specs.Session.{Portion, portion, feed, State, Turn, write, read, stop, clipped, turn, received}
 use Rattle.program_claims.specs.SessionClaims.{Input, going, ended, broken, Done, start, writes, reads, ends, fails, Fits, WritesTranscript, AnswersFirst, BeginsTranscript, WritesEnd}
 use Rattle.transcript.proofs.Lines.{clash, Later, fewer-whole}
 use Rattle.transcript.proofs.Alike.{counted, counted-is, counted-kept}
@@ -27,7 +27,7 @@ module _ (r : Runner) (room : ℕ) (s : State) where
   went = record { count = p .count; bytes = drop (p .taken) (s .bytes); over = s .over }
 
   abbrev waits : State
-  waits = record { count = s .count; bytes = kept (s .bytes); over = false }
+  waits = record { count = s .count; bytes = clipped (s .bytes); over = false }
 
   chosen : Bool → Bool → Turn
   chosen t o = cond t (write (p .text) went) (cond o stop (read waits))
@@ -101,7 +101,7 @@ module _ (file : List ℕ) where
 
     -- Where more is wanted, what is kept stands for the bytes at hand.
     stands-kept : (pieces : List (List ℕ)) (s : State) (sofar : List ℕ) → s .over ≡ false → p r room s .taken ≡ 0 → Stands pieces s sofar
-        → (e : Bool) (more : List ℕ) → chartLine file ++ counted r 0 (linesIn e (flatten pieces ++ more)) ≡ sofar ++ counted r (s .count) (linesIn e (kept (s .bytes) ++ more))
+        → (e : Bool) (more : List ℕ) → chartLine file ++ counted r 0 (linesIn e (flatten pieces ++ more)) ≡ sofar ++ counted r (s .count) (linesIn e (clipped (s .bytes) ++ more))
     stands-kept pieces s sofar o z h e more =
         let none : wholeLines (s .bytes) ≡ [] = ap (λ (x : Bool). linesIn x (s .bytes)) (sym o) ∙ idle r room s l z in
         h e more (λ q. absurd (false≢true (sym o ∙ q)))
@@ -123,14 +123,14 @@ module _ (file : List ℕ) where
     on broken pieces s sofar o h = absurd (false≢true (sym o ∙ h .over))
 
     holds-read : (i : Input) (pieces : List (List ℕ)) (s : State) (sofar piece : List ℕ) → s .over ≡ false → p r room s .taken ≡ 0 → Holds pieces i s sofar
-        → Holds (pieces ++ (piece ∷ [])) i (record { count = s .count; bytes = kept (s .bytes) ++ piece; over = false }) sofar
+        → Holds (pieces ++ (piece ∷ [])) i (record { count = s .count; bytes = clipped (s .bytes) ++ piece; over = false }) sofar
     holds-read going pieces s sofar piece o z h = (
       refl,
       λ e more f.
           ap (λ (x : List ℕ). chartLine file ++ counted r 0 (linesIn e (x ++ more))) (flatten-one pieces piece)
           ∙ ap (λ (x : List ℕ). chartLine file ++ counted r 0 (linesIn e x)) (append-assoc (flatten pieces) piece more)
           ∙ stands-kept pieces s sofar o z (h .1) e (piece ++ more)
-          ∙ ap (λ (x : List ℕ). sofar ++ counted r (s .count) (linesIn e x)) (sym (append-assoc (kept (s .bytes)) piece more)),
+          ∙ ap (λ (x : List ℕ). sofar ++ counted r (s .count) (linesIn e x)) (sym (append-assoc (clipped (s .bytes)) piece more)),
     )
     holds-read ended pieces s sofar piece o z h = absurd (false≢true (sym o ∙ h .0))
     holds-read broken pieces s sofar piece o z h = absurd (false≢true (sym o ∙ h .over))

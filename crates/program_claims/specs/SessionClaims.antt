@@ -6,7 +6,7 @@ use mathlib.Core.List.{List, [], _∷_, _++_, flatten}
 use mathlib.Core.Bool.{true, false}
 use lib.ListN.{length, take}
 use Rattle.runner.specs.State.{newRunner}
-use Rattle.reply.specs.Reply.{loaded}
+use Rattle.reply.specs.Reply.{loading}
 use Rattle.transcript.specs.Lines.{linesOf, wholeLines}
 use Rattle.transcript.specs.Transcript.{readOfFile, answers, chartLine, isChart, holder, transcript}
 use Rattle.transcript.specs.Session.{State, write, read, stop, turn, received, failed}
@@ -65,4 +65,4 @@ WritesEnd =
 -- "file length isn't 1,024, 1,536, 2,048 or 2,560": what is read of a chart file at most is enough
 -- to tell that it is too long.
 abbrev pub FirstBytes : Type 0
-FirstBytes = (file : List ℕ) → loaded (take readOfFile file) newRunner ≡ loaded file newRunner
+FirstBytes = (file : List ℕ) → loading (take readOfFile file) newRunner ≡ loading file newRunner

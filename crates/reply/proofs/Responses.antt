@@ -22,7 +22,7 @@ use Rattle.runner.specs.declared.LoadTold.{LoadTold}
 use Rattle.runner.specs.declared.LoadTold.the-variants as load
 use Rattle.runner.specs.declared.AdvanceTold.{AdvanceTold}
 use Rattle.runner.specs.declared.AnswerTold.{AnswerTold}
-use Rattle.reply.specs.Reply.{replyText, accepted, beginOf, runOut, answered, respond}
+use Rattle.reply.specs.Reply.{replyText, isAccepted, beginOf, runOut, answered, respond}
 
 -- So many bytes were printed on a buffer, which is afterwards as a text leaves it.
 abbrev pub Prints : List ℕ → ℕ → (out after : List ℕ) → Type 0
@@ -40,14 +40,14 @@ module _ (file : Outcome) (x : LoadTold) (next : Runner) (e : outcome (loadReply
   shows text p = (p .0, (p .1, counts text r out after l p))
 
   abbrev Opens : Bool → Type 0
-  Opens b = (next ≡ file .next) × ((b ≡ accepted (file .told .reply)) × Shows (replyText (file .told .reply)))
+  Opens b = (next ≡ file .next) × ((b ≡ isAccepted (file .told .reply)) × Shows (replyText (file .told .reply)))
 
   pub opens-chart : (k n : ℕ) → x ≡ load.Chart k n → Prints (chartText k n) r out after → Opens true
-  unfolding loadReply replyText accepted
+  unfolding loadReply replyText isAccepted
   opens-chart k n q p = rw (sym e, q) (refl, (refl, shows (chartText k n) p))
 
   pub opens-refusal : (y : Refusal) → x ≡ load.Refused y → Prints (refusedText (y .number) (y .detail)) r out after → Opens false
-  unfolding loadReply replyText accepted
+  unfolding loadReply replyText isAccepted
   opens-refusal y q p = rw (sym e, q) (refl, (refl, shows (refusedText (y .number) (y .detail)) p))
 
 -- The texts of a line.
@@ -61,12 +61,12 @@ module _ (s : Runner) (number : ℕ) (line : List ℕ) (ns : Numbers) (p : ns �
 
   module _ (z : ns .count ≡ 0 → ⊥) (x : Verdict) (next : Runner) (e : outcome (verdictReply x) [] next ≡ call (beginOf ns) s) where
     pub refuses : (y : Refusal) → x ≡ verdict.Refused y → Prints (refusedText (y .number) (y .detail)) r out after → Responds
-    unfolding respond answered verdictReply replyText accepted
+    unfolding respond answered verdictReply replyText isAccepted
     refuses y w q = rw (sym p, ne-eqb (ns .count) 0 z, sym e, w) q
 
     pub runs : x ≡ verdict.Done → (t : AdvanceTold) (last : Runner) → outcome (advanceReply t) [] last ≡ call (advance 65535) next
         → (told : AnswerTold) → outcome (answerReply told) [] last ≡ call answer last → Prints (replyText (answerReply told)) r out after → Responds
-    unfolding respond answered verdictReply replyText accepted
+    unfolding respond answered verdictReply replyText isAccepted
     runs w t last f told g q =
         let end : last ≡ runOut next = ap (λ (o : Outcome). o .next) f in
         let text : answerReply told ≡ call answer (runOut next) .told .reply

@@ -29,18 +29,18 @@ replyText (ending e steps) = endingText e steps
 replyText (wrote bytes) = []
 replyText (refused number detail) = refusedText number detail
 
-unfoldable pub accepted : Reply → Bool
-accepted done = true
-accepted (chart inputs boxes) = true
-accepted (running steps) = true
-accepted (ended steps) = true
-accepted (ending e steps) = true
-accepted (wrote bytes) = true
-accepted (refused number detail) = false
+unfoldable pub isAccepted : Reply → Bool
+isAccepted done = true
+isAccepted (chart inputs boxes) = true
+isAccepted (running steps) = true
+isAccepted (ended steps) = true
+isAccepted (ending e steps) = true
+isAccepted (wrote bytes) = true
+isAccepted (refused number detail) = false
 
 -- The chart file.
-abbrev pub loaded : List ℕ → Runner → Outcome
-loaded file r = call (load file) r
+abbrev pub loading : List ℕ → Runner → Outcome
+loading file r = call (load file) r
 
 -- "mode, allowed set, limit, inputs": the begin that a line asks for.
 abbrev pub beginOf : Numbers → Call
@@ -52,7 +52,7 @@ runOut r = call (advance 65535) r .next
 
 -- The text of a begin that has been asked for: its refusal, or the ending of the run.
 unfoldable pub answered : Outcome → List ℕ
-answered o = cond (accepted (o .told .reply)) (replyText (call answer (runOut (o .next)) .told .reply)) (replyText (o .told .reply))
+answered o = cond (isAccepted (o .told .reply)) (replyText (call answer (runOut (o .next)) .told .reply)) (replyText (o .told .reply))
 
 -- The text of a line. "11: the run program's line is ill-formed. Detail: line number from 1." A
 -- line that is not has three numbers or more.

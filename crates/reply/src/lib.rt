@@ -8,7 +8,7 @@ ghost use lib.ListN.{length};
 ghost use Rattle.io.specs.Counts.{Counts};
 ghost use Rattle.texts.specs.Printing.{printed, printedLength};
 ghost use Rattle.runner.specs.Replies.{answerReply};
-ghost use Rattle.reply.specs.Reply.{replyText, accepted, loaded, respond};
+ghost use Rattle.reply.specs.Reply.{replyText, isAccepted, loading, respond};
 
 // The runner afterwards, how many bytes were printed, and whether a chart was loaded.
 pub struct Opened {
@@ -19,15 +19,15 @@ pub struct Opened {
 
 // The chart line, or the refusal of a file.
 pub fn load_chart(runner: Runner, file: &[u8], out: &mut [u8]) -> Opened
-    ensures { λ r. ⌜ r .runner ≡ loaded (now (file .entry)) runner .next ⌝ }
-    ensures { λ r. ⌜ r .loaded ≡ accepted (loaded (now (file .entry)) runner .told .reply) ⌝ }
-    ensures { λ r. ⌜ r .length ≡ printedLength (replyText (loaded (now (file .entry)) runner .told .reply)) (length (now (out .entry))) ⌝ }
-    ensures { λ _. ⌜ now (out .exit) ≡ printed (replyText (loaded (now (file .entry)) runner .told .reply)) (now (out .entry)) ⌝ }
+    ensures { λ r. ⌜ r .runner ≡ loading (now (file .entry)) runner .next ⌝ }
+    ensures { λ r. ⌜ r .loaded ≡ isAccepted (loading (now (file .entry)) runner .told .reply) ⌝ }
+    ensures { λ r. ⌜ r .length ≡ printedLength (replyText (loading (now (file .entry)) runner .told .reply)) (length (now (out .entry))) ⌝ }
+    ensures { λ _. ⌜ now (out .exit) ≡ printed (replyText (loading (now (file .entry)) runner .told .reply)) (now (out .entry)) ⌝ }
     ensures { λ r. ⌜ Counts (r .length) (now (out .exit)) ⌝ }
 {
-    let loading = runner.load(file);
-    let told = loading.told;
-    let after = loading.runner;
+    let loaded = runner.load(file);
+    let told = loaded.told;
+    let after = loaded.runner;
     match told {
         LoadTold::Chart { inputs, boxes } => {
             let length = texts::print_chart(inputs, boxes, out);

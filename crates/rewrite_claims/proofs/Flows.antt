@@ -18,12 +18,12 @@ use Rattle.rewrite.proofs.Copies.{is-copy, alike-says, copy-below}
 use Rattle.rewrite.proofs.Replaced.{replaced-says, kept-box}
 use Rattle.chart_claims.proofs.Rewritten.{rewritten-by-places}
 use Rattle.operations.specs.Operation.{readBy, valueOfLeft, valueOf}
-use Rattle.decode.specs.Decode.{word, decode, meaning, flow}
+use Rattle.decode.specs.Decode.{littleEndian, decode, meaning, flow}
 use Rattle.decode.proofs.Decoded.{box-here, box-past}
 use Rattle.marks.specs.Marks.{modeOf}
 use Rattle.marks.specs.declared.Mode.the-variants.{Bare}
 use Rattle.machine.specs.Run.{Run, valued, Progress, going, over, run}
-use Rattle.machine.proofs.Runs.{kept-all}
+use Rattle.machine.proofs.Runs.{disclosed-all}
 use Rattle.runner.specs.Whole.{startOf, Finish, finish, whole}
 use Rattle.claims.proofs.Branches.{clash}
 use Rattle.rewrite_claims.specs.Rewriting.{boxesRun}
@@ -40,7 +40,7 @@ module _ (edition : ℕ) (table : List ℕ) (long : length table ≡ 2040) where
       let b = boxOf table p in
       let c = is-copy b e in
       record {
-        gives = valueOf edition 1 (word (at b 6) (at b 7) (at b 8) (at b 9));
+        gives = valueOf edition 1 (littleEndian (at b 6) (at b 7) (at b 8) (at b 9));
         is = rw (box-here table p (copy-below table long p e), c .0, c .1);
         same = λ v. refl;
       }
@@ -120,6 +120,6 @@ unfolding whole finish modeOf
 whole-shorter h table long inputs allowed limit v steps e =
     let start = startOf 0 inputs allowed limit h in
     let old = run (flow (h .edition) table) limit (going start) in
-    let ends = finish-valued old v steps (ap finish (sym (kept-all Bare refl old)) ∙ e) in
+    let ends = finish-valued old v steps (ap finish (sym (disclosed-all Bare refl old)) ∙ e) in
     let new = run-shorter (h .edition) table long limit start v steps refl ends in
-    (new .0, ap finish (kept-all Bare refl _ ∙ new .1))
+    (new .0, ap finish (disclosed-all Bare refl _ ∙ new .1))

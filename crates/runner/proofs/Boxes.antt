@@ -21,16 +21,16 @@ use Rattle.decode.specs.Decode.{boxFrom, boxAt, Box, meaning}
 use Rattle.decode.proofs.Decoded.{Finds}
 use Rattle.decode.specs.declared.FlowBox.{FlowBox}
 use Rattle.format.specs.declared.Refusal.{Refusal}
-use Rattle.marks.specs.Marks.{modeOf, numbersOf, setBy, hides}
-use Rattle.marks.specs.declared.Numbers.{Numbers}
+use Rattle.marks.specs.Marks.{modeOf, masksOf, setBy, hides}
+use Rattle.marks.specs.declared.Masks.{Masks}
 use Rattle.marks.specs.declared.Mode.{Mode}
 use Rattle.marks.specs.declared.Mode.the-variants.{Bare, Surveillance, HighWater}
 use Rattle.machine.specs.Act.{actBy, act}
-use Rattle.machine.specs.Run.{Run, Ending, valued, notice, spent, Progress, going, over, moved, goesOn, settle, step, run, kept}
+use Rattle.machine.specs.Run.{Run, Ending, valued, notice, spent, Progress, going, over, moved, goesOn, settle, step, run, disclosed}
 use Rattle.machine.specs.declared.Act.{Act}
 use Rattle.machine.specs.declared.Act.the-variants.{Store}
-use Rattle.machine.proofs.Acts.{SixteenInputs, sixteen-set, act-by-numbers, StoresSixteen, stores-sixteen}
-use Rattle.machine.proofs.Runs.{over-still, run-one, kept-by}
+use Rattle.machine.proofs.Acts.{SixteenInputs, sixteen-set, act-by-masks, StoresSixteen, stores-sixteen}
+use Rattle.machine.proofs.Runs.{over-still, run-one, disclosed-by}
 use Rattle.calls.specs.Calls.{byVerdict, check}
 use Rattle.calls.specs.Calls as calls
 use Rattle.calls.specs.declared.Verdict.{Verdict}
@@ -66,17 +66,17 @@ stored-more r s q vars marks counter h e =
 
 -- The box at hand of a runner s that has come from r, by the half of its number, and the act that
 -- the code computed of it by the numbers of the mode.
-pub acts : (s r : Runner) (edition : ℕ) (mode : Mode) (numbers : Numbers) (at half steps : ℕ) (b : FlowBox) (a : Act) → Stored r s → SixteenInputs (s .marks)
-    → edition ≡ r .header .edition → mode ≡ modeOf (r .mode) → numbers ≡ numbersOf mode → Finds half at
-    → b ≡ boxFrom (s .table) (2 * half) → a ≡ actBy (setBy numbers) mode (meaning edition b) (s .vars) (s .marks) (s .counter)
+pub acts : (s r : Runner) (edition : ℕ) (mode : Mode) (masks : Masks) (at half steps : ℕ) (b : FlowBox) (a : Act) → Stored r s → SixteenInputs (s .marks)
+    → edition ≡ r .header .edition → mode ≡ modeOf (r .mode) → masks ≡ masksOf mode → Finds half at
+    → b ≡ boxFrom (s .table) (2 * half) → a ≡ actBy (setBy masks) mode (meaning edition b) (s .vars) (s .marks) (s .counter)
     → (x : Act) → a ≡ x → step (flowIn r) (seen s at steps) ≡ settle x (seen s at steps)
-acts s r edition mode numbers at half steps b a h small ee em en found from by x d =
+acts s r edition mode masks at half steps b a h small ee em en found from by x d =
     let q = seen s at steps in
     let eb = from ∙ found (s .table) in
     let ea =
     by
-    ∙ ap (λ (n : Numbers). actBy (setBy n) mode (meaning edition b) (s .vars) (s .marks) (s .counter)) en
-    ∙ act-by-numbers mode (s .marks) small (meaning edition b) (s .vars) (s .counter) in
+    ∙ ap (λ (n : Masks). actBy (setBy n) mode (meaning edition b) (s .vars) (s .marks) (s .counter)) en
+    ∙ act-by-masks mode (s .marks) small (meaning edition b) (s .vars) (s .counter) in
     ap (λ (y : Runner). settle (act (modeOf (s .mode)) (meaning (r .header .edition) (boxAt (y .table) at)) (q .vars) (q .marks) (q .counter)) q) (sym h)
     ∙ ap (λ (y : Runner). settle (act (modeOf (y .mode)) (meaning (r .header .edition) (boxAt (s .table) at)) (q .vars) (q .marks) (q .counter)) q) h
     ∙ ap (λ (k : Mode). settle (act k (meaning (r .header .edition) (boxAt (s .table) at)) (q .vars) (q .marks) (q .counter)) q) (sym em)
@@ -85,13 +85,13 @@ acts s r edition mode numbers at half steps b a h small ee em en found from by x
     ∙ ap (λ (y : Act). settle y q) (sym ea ∙ d)
 
 -- What a box stores leaves every mark of 16 inputs.
-pub stays-sixteen : (s : Runner) (mode : Mode) (numbers : Numbers) (b : Box) (a : Act) → SixteenInputs (s .marks) → numbers ≡ numbersOf mode
-    → a ≡ actBy (setBy numbers) mode b (s .vars) (s .marks) (s .counter)
+pub stays-sixteen : (s : Runner) (mode : Mode) (masks : Masks) (b : Box) (a : Act) → SixteenInputs (s .marks) → masks ≡ masksOf mode
+    → a ≡ actBy (setBy masks) mode b (s .vars) (s .marks) (s .counter)
     → (t v m next : ℕ) → a ≡ Store t v m next → SixteenInputs (set (s .marks) (t % 32) m)
-stays-sixteen s mode numbers b a small en ea t v m next d =
+stays-sixteen s mode masks b a small en ea t v m next d =
     sixteen-set (s .marks) (t % 32) m small
     (subst StoresSixteen
-    (ap (λ (n : Numbers). actBy (setBy n) mode b (s .vars) (s .marks) (s .counter)) (sym en) ∙ sym ea ∙ d)
+    (ap (λ (n : Masks). actBy (setBy n) mode b (s .vars) (s .marks) (s .counter)) (sym en) ∙ sym ea ∙ d)
     (stores-sixteen mode b (s .vars) (s .marks) (s .counter)))
 
 -- What the type of a runner says of its steps and marks: what owning the runner tells has a part
@@ -166,30 +166,30 @@ stands : (r s next : Runner) (at steps : ℕ) → Stored r s → next ≡ stands
 unfolding resumed
 stands r s next at steps h e = e ∙ ap (withRun (seen s at steps)) h
 
-abbrev keeps : Bool → (state took named : ℕ) → Remains
-keeps hidden state took named =
-    let own : Remains = record { state = state; took = took; named = named } in
-    cond (eqb state 2) own (cond hidden (record { state = 3; took = 0; named = 0 }) own)
+abbrev keeps : Bool → (state total named : ℕ) → Remains
+keeps hidden state total named =
+    let own : Remains = record { state = state; total = total; named = named } in
+    cond (eqb state 2) own (cond hidden (record { state = 3; total = 0; named = 0 }) own)
 
 abbrev pub endsWith : Runner → Remains → (value : ℕ) → Runner
-endsWith r k value = runnerOf (chartIn r) noRun (k .state) (k .took) value (k .named)
+endsWith r k value = runnerOf (chartIn r) noRun (k .state) (k .total) value (k .named)
 
-kept-runner : (m : Mode) (e : Ending) (steps : ℕ) (r : Runner)
-    → endsWith r (keeps (hides m) (stateOf e) steps (namedIn e)) (valueIn e) ≡ resumed (kept m (over e steps)) r
-unfolding kept resumed endedWith
-kept-runner m (valued v) steps r = refl
-kept-runner Bare (notice named) steps r = refl
-kept-runner Surveillance (notice named) steps r = refl
-kept-runner HighWater (notice named) steps r = refl
-kept-runner Bare spent steps r = refl
-kept-runner Surveillance spent steps r = refl
-kept-runner HighWater spent steps r = refl
+disclosed-runner : (m : Mode) (e : Ending) (steps : ℕ) (r : Runner)
+    → endsWith r (keeps (hides m) (stateOf e) steps (namedIn e)) (valueIn e) ≡ resumed (disclosed m (over e steps)) r
+unfolding disclosed resumed endedWith
+disclosed-runner m (valued v) steps r = refl
+disclosed-runner Bare (notice named) steps r = refl
+disclosed-runner Surveillance (notice named) steps r = refl
+disclosed-runner HighWater (notice named) steps r = refl
+disclosed-runner Bare spent steps r = refl
+disclosed-runner Surveillance spent steps r = refl
+disclosed-runner HighWater spent steps r = refl
 
 -- What it tells of an ending is what it tells of what is kept.
-kept-reply : (m : Mode) (e : Ending) (steps : ℕ) → outcomes.ended (cond (hides m) 0 steps) ≡ progressReply m (kept m (over e steps))
+disclosed-reply : (m : Mode) (e : Ending) (steps : ℕ) → outcomes.ended (cond (hides m) 0 steps) ≡ progressReply m (disclosed m (over e steps))
 unfolding progressReply
-kept-reply m e steps =
-    kept-by (λ (x : Progress). outcomes.ended (cond (hides m) 0 steps) ≡ progressReply m x) m (over e steps) refl (λ h. rw h)
+disclosed-reply m e steps =
+    disclosed-by (λ (x : Progress). outcomes.ended (cond (hides m) 0 steps) ≡ progressReply m x) m (over e steps) refl (λ h. rw h)
 
 -- What advance leaves and tells where its boxes have come to s.
 module _ (m todo : ℕ) (r s next : Runner) (at end value named steps : ℕ) (told : AdvanceTold) (h : Stored r s)
@@ -199,19 +199,19 @@ module _ (m todo : ℕ) (r s next : Runner) (at end value named steps : ℕ) (to
   came-running : check (calls.advance m) (standingOf r) ≡ Done → todo ≡ m
       → advanceReply told ≡ cond (eqb end 1) (outcomes.running steps) (outcomes.ended (cond hidden 0 steps))
       → outcome (advanceReply told) [] next ≡ call (calls.advance m) r
-  unfolding progressReply kept
+  unfolding progressReply disclosed
   came-running on all t =
       let mode = modeOf (r .mode) in
       let boxes : run (flowIn r) m (going (runIn r)) ≡ run (flowIn r) todo (going (runIn r)) = rw all in
       ⊎-elim
-      (λ w. advance-runs m r next told (going (seen s at steps)) on (ap (kept mode) (boxes ∙ w .2)) (t ∙ rw (w .0)) (stands r s next at steps h (stays (w .0))))
+      (λ w. advance-runs m r next told (going (seen s at steps)) on (ap (disclosed mode) (boxes ∙ w .2)) (t ∙ rw (w .0)) (stands r s next at steps h (stays (w .0))))
       (λ w.
       let e = w .0 in
       let no : eqb end 1 ≡ false = ap (λ (k : ℕ). eqb k 1) (w .1) ∙ not-under-way e in
-      advance-runs m r next told (kept mode (over e steps)) on (ap (kept mode) (boxes ∙ w .4)) (t ∙ rw (no, hides-as) (kept-reply mode e steps))
+      advance-runs m r next told (disclosed mode (over e steps)) on (ap (disclosed mode) (boxes ∙ w .4)) (t ∙ rw (no, hides-as) (disclosed-reply mode e steps))
       (ends (λ z. no-ending e (sym (w .1) ∙ z))
       ∙ rw (w .1, w .2, w .3, hides-as)
-      (ap (λ (x : Runner). endsWith x (keeps (hides mode) (stateOf e) steps (namedIn e)) (valueIn e)) h ∙ kept-runner mode e steps r)))
+      (ap (λ (x : Runner). endsWith x (keeps (hides mode) (stateOf e) steps (namedIn e)) (valueIn e)) h ∙ disclosed-runner mode e steps r)))
       came
 
   came-resting : (x : Refusal) → check (calls.advance m) (standingOf r) ≡ Refused x → todo ≡ 0 → advanceReply told ≡ outcomes.turnedAway x

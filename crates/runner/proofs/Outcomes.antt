@@ -8,7 +8,7 @@ use Rattle.format.specs.File.{checkFile, refusal}
 use Rattle.format.specs.declared.Header.{Header}
 use Rattle.format.specs.declared.Refusal.{Refusal}
 use Rattle.format.specs.declared.Checked.the-variants as checked
-use Rattle.format.proofs.Accepted.{accepted}
+use Rattle.format.proofs.Passes.{passes}
 use Rattle.chart.specs.Chart.{tableOf}
 use Rattle.chart.specs.WriteBack.{fileLength, putFile}
 use Rattle.chart.proofs.Writes.{put-fits}
@@ -47,7 +47,7 @@ module _ (file : List ℕ) (r : Runner) where
   unfolding check fileVerdict loadReply outcomeBy says after
   load-accepts h table next n e t d =
       ap (outcome (outcomes.chart (h .inputs) (h .boxes)) []) (d ∙ ap (λ (x : List ℕ). idle (record { header = h; table = x })) t)
-      ∙ ap (λ (x : Header). outcome (outcomes.chart (x .inputs) (x .boxes)) [] (idle (record { header = x; table = tableOf file }))) (accepted file h e .header)
+      ∙ ap (λ (x : Header). outcome (outcomes.chart (x .inputs) (x .boxes)) [] (idle (record { header = x; table = tableOf file }))) (passes file h e .header)
       ∙ by-verdict (calls.load file) r Done (rw (ne-eqb _ _ n, e))
 
   pub load-refuses : (x : Refusal) → (r .state ≡ 1 → ⊥) → checkFile file ≡ checked.Refused x → outcome (loadReply (load.Refused x)) [] r ≡ call (calls.load file) r
@@ -111,19 +111,19 @@ module _ (r : Runner) where
   unfolding check answerReply outcomeBy
   answer-refuses x d l = ap (λ (y : Refusal). outcome (outcomes.turnedAway y) [] r) d ∙ by-verdict calls.answer r (refuse 24) (rw (lt-leb _ _ l))
 
-  answer-tells : 2 ≤ r .state → outcome (outcomes.ending (endingIn r) (r .took)) [] r ≡ call calls.answer r
+  answer-tells : 2 ≤ r .state → outcome (outcomes.ending (endingIn r) (r .total)) [] r ≡ call calls.answer r
   unfolding check outcomeBy says after
   answer-tells l = by-verdict calls.answer r Done (rw (le-leb _ _ l))
 
-  pub answer-value : 2 ≤ r .state → r .state ≡ 2 → outcome (answerReply (answer.Value (r .value) (r .took))) [] r ≡ call calls.answer r
+  pub answer-value : 2 ≤ r .state → r .state ≡ 2 → outcome (answerReply (answer.Value (r .value) (r .total))) [] r ≡ call calls.answer r
   unfolding answerReply
   answer-value l e = sym (rw (eq-eqb _ _ e)) ∙ answer-tells l
 
-  pub answer-notice : 2 ≤ r .state → r .state ≡ 3 → outcome (answerReply (answer.Notice (r .named) (r .took))) [] r ≡ call calls.answer r
+  pub answer-notice : 2 ≤ r .state → r .state ≡ 3 → outcome (answerReply (answer.Notice (r .named) (r .total))) [] r ≡ call calls.answer r
   unfolding answerReply
   answer-notice l e = sym (rw e) ∙ answer-tells l
 
-  pub answer-spent : 2 ≤ r .state → (r .state ≡ 2 → ⊥) → (r .state ≡ 3 → ⊥) → outcome (answerReply (answer.Spent (r .took))) [] r ≡ call calls.answer r
+  pub answer-spent : 2 ≤ r .state → (r .state ≡ 2 → ⊥) → (r .state ≡ 3 → ⊥) → outcome (answerReply (answer.Spent (r .total))) [] r ≡ call calls.answer r
   unfolding answerReply
   answer-spent l n m = sym (rw (ne-eqb _ _ n, ne-eqb _ _ m)) ∙ answer-tells l
 

@@ -89,7 +89,7 @@ unfoldable pub says : Call → Runner → Reply
 says (load file) r = chart (headerOf file .inputs) (headerOf file .boxes)
 says (begin mode inputs allowed limit) r = done
 says (advance m) r = progressReply (modeOf (r .mode)) (ran m r)
-says answer r = ending (endingIn r) (r .took)
+says answer r = ending (endingIn r) (r .total)
 says abandon r = done
 says (writeBack buffer) r = wrote (fileLength (r .header))
 says rewrite r = done

@@ -9,7 +9,7 @@ use Rattle.format.specs.File.{inRange}
 use Rattle.chart.specs.Chart.{Chart}
 use Rattle.decode.specs.Decode.{Box, flow}
 use Rattle.marks.specs.Marks.{modeOf, hides}
-use Rattle.machine.specs.Run.{Run, Ending, valued, notice, spent, Progress, going, over, run, kept}
+use Rattle.machine.specs.Run.{Run, Ending, valued, notice, spent, Progress, going, over, run, disclosed}
 use Rattle.calls.specs.declared.Standing.{Standing}
 use Rattle.runner.specs.declared.Runner.{Runner}
 
@@ -59,8 +59,8 @@ endingIn r = cond (eqb (r .state) 2) (valued (r .value)) (cond (eqb (r .state) 3
 
 -- The runner of a chart, a run, a state, and of an ended run the steps that it took, its value and
 -- the set that it names: every runner is built here.
-abbrev pub runnerOf : Chart → Run → (state took value named : ℕ) → Runner
-runnerOf c q state took value named =
+abbrev pub runnerOf : Chart → Run → (state total value named : ℕ) → Runner
+runnerOf c q state total value named =
     record {
       header = c .header;
       table = c .table;
@@ -72,7 +72,7 @@ runnerOf c q state took value named =
       limit = q .limit;
       steps = q .steps;
       state = state;
-      took = took;
+      total = total;
       value = value;
       named = named;
     }
@@ -84,7 +84,7 @@ runIn r =
 
 -- The runner with another run in the place of its own.
 abbrev pub withRun : Run → Runner → Runner
-withRun q r = runnerOf (chartIn r) q (r .state) (r .took) (r .value) (r .named)
+withRun q r = runnerOf (chartIn r) q (r .state) (r .total) (r .value) (r .named)
 
 -- "When a run ends or is dropped, the variables, their marks and the counter mark become 0", and so
 -- does every other number of the run.
@@ -115,7 +115,7 @@ abbrev pub flowIn : Runner → ℕ → Box
 flowIn r = flow (r .header .edition) (r .table)
 
 abbrev pub ran : ℕ → Runner → Progress
-ran m r = kept (modeOf (r .mode)) (run (flowIn r) m (going (runIn r)))
+ran m r = disclosed (modeOf (r .mode)) (run (flowIn r) m (going (runIn r)))
 
 unfoldable pub resumed : Progress → Runner → Runner
 resumed (going q) r = withRun q r

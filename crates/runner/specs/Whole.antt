@@ -5,7 +5,7 @@ use mathlib.Core.List.{List}
 use Rattle.format.specs.declared.Header.{Header}
 use Rattle.decode.specs.Decode.{flow}
 use Rattle.marks.specs.Marks.{modeOf}
-use Rattle.machine.specs.Run.{Run, Ending, spent, Progress, going, over, run, kept}
+use Rattle.machine.specs.Run.{Run, Ending, spent, Progress, going, over, run, disclosed}
 use Rattle.begin.specs.Begin.{firstVars, firstMarks}
 
 -- A run at its start: "Inputs are copied, other variables are 0, each withheld input is marked and
@@ -27,4 +27,4 @@ finish (over e steps) = record { ending = e; steps = steps }
 
 -- The limit is the number that it means, and 0 runs nothing; a mode's number is read by `modeOf`.
 unfoldable pub whole : Header → (table : List ℕ) → (mode : ℕ) (inputs : List ℕ) (allowed limit : ℕ) → Finish
-whole h table mode inputs allowed limit = finish (kept (modeOf mode) (run (flow (h .edition) table) limit (going (startOf mode inputs allowed limit h))))
+whole h table mode inputs allowed limit = finish (disclosed (modeOf mode) (run (flow (h .edition) table) limit (going (startOf mode inputs allowed limit h))))

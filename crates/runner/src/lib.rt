@@ -33,7 +33,7 @@ pub struct Runner {
     limit: u16,
     steps: u16,
     state: u8,
-    took: u32,
+    total: u32,
     value: u32,
     named: u16,
     vars: [u32; 32],
@@ -105,7 +105,7 @@ impl Runner {
             limit: 0,
             steps: 0,
             state: 0,
-            took: 0,
+            total: 0,
             value: 0,
             named: 0,
         }
@@ -123,7 +123,7 @@ impl Runner {
         self.limit = 0;
         self.steps = 0;
         self.state = 0;
-        self.took = 0;
+        self.total = 0;
         self.value = 0;
         self.named = 0;
         self
@@ -176,7 +176,7 @@ impl Runner {
                 self.limit = begin::effective(limit) as u16;
                 self.steps = 0;
                 self.state = 1;
-                self.took = 0;
+                self.total = 0;
                 self.value = 0;
                 self.named = 0;
             }
@@ -194,7 +194,7 @@ impl Runner {
         let verdict = calls::check_advance(standing, m);
         let limit = self.limit as u32;
         let mode = marks::mode_of(self.mode);
-        let numbers = marks::numbers_of(mode);
+        let masks = marks::masks_of(mode);
         let hidden = marks::hides(mode);
         let mut todo = amount(verdict, m);
         let mut at = self.at;
@@ -211,7 +211,7 @@ impl Runner {
             let done = machine::run_box(
                 edition,
                 mode,
-                numbers,
+                masks,
                 b,
                 &self.vars,
                 &self.marks,
@@ -262,9 +262,9 @@ impl Runner {
             self.at = 0;
             self.limit = 0;
             self.steps = 0;
-            let ending = kept(hidden, end, steps, named);
+            let ending = disclose(hidden, end, steps, named);
             self.state = ending.state;
-            self.took = ending.took;
+            self.total = ending.total;
             self.value = value;
             self.named = ending.named;
         }
@@ -293,7 +293,7 @@ impl Runner {
         ensures { λ r. ⌜ outcome (answerReply r) [] self ≡ call answer self ⌝ }
     {
         let state = self.state;
-        let steps = self.took;
+        let steps = self.total;
         if state < 2 {
             return AnswerTold::Refused(refusal(24));
         }
@@ -349,7 +349,7 @@ fn standing_of(header: Header, state: u8, mode: u8, limit: u16) -> Standing
     ensures { λ r. ⌜ r ≡ record { header = header; running = eqb state 1; least = cond (hides (modeOf mode)) limit 0; ended = leb 2 state } ⌝ }
 {
     let hidden = marks::hides(marks::mode_of(mode));
-    let least = choose(hidden, limit as u32, 0);
+    let least = select(hidden, limit as u32, 0);
     Standing {
         header,
         running: state == 1,
@@ -359,7 +359,7 @@ fn standing_of(header: Header, state: u8, mode: u8, limit: u16) -> Standing
 }
 
 // One of two numbers.
-fn choose(b: bool, yes: u32, no: u32) -> u32
+fn select(b: bool, yes: u32, no: u32) -> u32
     ensures { λ r. ⌜ r ≡ cond b yes no ⌝ }
 {
     if b { yes } else { no }
@@ -379,25 +379,25 @@ fn amount(verdict: Verdict, m: u32) -> u32
 // that it names. A value keeps its count; where counts are hidden, nothing else does.
 struct Remains {
     state: u8,
-    took: u32,
+    total: u32,
     named: u16,
 }
 
-fn kept(hidden: bool, state: u8, took: u32, named: u16) -> Remains
+fn disclose(hidden: bool, state: u8, total: u32, named: u16) -> Remains
     ensures { λ r. ⌜ r ≡
-        (let own : Remains = record { state = state; took = took; named = named } in cond (eqb state 2) own (cond hidden (record { state = 3; took = 0; named = 0 }) own)) ⌝ }
+        (let own : Remains = record { state = state; total = total; named = named } in cond (eqb state 2) own (cond hidden (record { state = 3; total = 0; named = 0 }) own)) ⌝ }
 {
     if state == 2 {
-        return Remains { state, took, named };
+        return Remains { state, total, named };
     }
     if hidden {
         return Remains {
             state: 3,
-            took: 0,
+            total: 0,
             named: 0,
         };
     }
-    Remains { state, took, named }
+    Remains { state, total, named }
 }
 
 // What advance tells by the verdict on it, of a run that has come to state `end` where it was
@@ -411,7 +411,7 @@ fn tell(verdict: Verdict, hidden: bool, end: u8, steps: u32) -> AdvanceTold
             if end == 1 {
                 return AdvanceTold::Running(steps);
             }
-            AdvanceTold::Ended(choose(hidden, 0, steps))
+            AdvanceTold::Ended(select(hidden, 0, steps))
         }
         Verdict::Refused(refusal) => AdvanceTold::Refused(refusal),
     }

@@ -10,7 +10,7 @@ use test_samples::arguments;
 use test_samples::arguments::first_inputs;
 use test_samples::files::byte;
 use test_text::text::part;
-use told::kinds;
+use encoding::kinds;
 
 struct Two {
     pair: Pair,
@@ -47,8 +47,8 @@ fn run(two: Two, state: &mut u64, k: u32) -> Two {
     );
     let some = advances(begun, arguments::amount(state, limit));
     let mut all = advances(some, limit);
-    let first = told::of_answer(all.original.answer());
-    let second = told::of_answer(all.converted.answer());
+    let first = encoding::of_answer(all.original.answer());
+    let second = encoding::of_answer(all.converted.answer());
     let pair = all.pair.alike(first, second);
     all.pair = pair;
     all
@@ -57,7 +57,7 @@ fn run(two: Two, state: &mut u64, k: u32) -> Two {
 // Three runs of a file's chart and of its converted one, where the file converts.
 pub fn runs(pair: Pair, state: &mut u64, file: &[u8]) -> Pair {
     let mut other = [0u8; 2560];
-    let told = told::of_written(convert::convert(file, &mut other));
+    let told = encoding::of_written(convert::convert(file, &mut other));
     if told.kind != kinds::WRITTEN {
         return pair;
     }

@@ -8,8 +8,8 @@ use test_samples::arguments;
 use test_samples::arguments::Arguments;
 use test_samples::arguments::first_inputs;
 use test_samples::files::byte;
-use told::Encoded;
-use told::kinds;
+use encoding::Encoded;
+use encoding::kinds;
 
 // The chart as it was and as it is rewritten, and whether it is the same.
 struct Charts {
@@ -26,7 +26,7 @@ fn ending(runner: Runner, a: Arguments, inputs: &[u32]) -> Encoded {
         return verdict;
     }
     let ended = made::advance(begun.runner, arguments::steps_within(a.limit));
-    told::of_answer(ended.runner.answer())
+    encoding::of_answer(ended.runner.answer())
 }
 
 // A run of each in a mode.

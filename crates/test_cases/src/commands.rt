@@ -12,7 +12,7 @@ use test_text::letters;
 use test_text::text::number;
 use test_text::text::part;
 use test_text::text::piece;
-use told::kinds;
+use encoding::kinds;
 
 // First two letters, as in `letters`.
 const TAKE: u32 = 0x7461;
@@ -39,13 +39,13 @@ fn begin(pair: Pair, line: &[u8]) -> Pair {
 }
 
 fn expect(pair: Pair, line: &[u8]) -> Pair {
-    let told = told::make(number(line, 1), number(line, 2) as u64, number(line, 3));
+    let told = encoding::make(number(line, 1), number(line, 2) as u64, number(line, 3));
     pair.expect(piece(line, 1, b'"'), told)
 }
 
 // A line that is no command, or says what is not so, counts as a difference.
 fn wrong_line(pair: Pair, line: &[u8]) -> Pair {
-    let none = told::make(kinds::DONE, 0, 0);
+    let none = encoding::make(kinds::DONE, 0, 0);
     pair.differ(line, none, none)
 }
 

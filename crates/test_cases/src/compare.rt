@@ -2,11 +2,11 @@
 // `told` by itself.
 use runner::Runner;
 use test_second::Model;
-use told::Encoded;
-use told::kinds;
+use encoding::Encoded;
+use encoding::kinds;
 
 pub fn of_model(t: test_second::Told) -> Encoded {
-    told::make(t.kind, t.first as u64, t.second)
+    encoding::make(t.kind, t.first as u64, t.second)
 }
 
 pub fn same(a: Encoded, b: Encoded) -> bool {

@@ -1,7 +1,7 @@
 // One call to one runner: the runner after it, and what it told.
 use runner::Runner;
 use test_samples::arguments::Arguments;
-use told::Encoded;
+use encoding::Encoded;
 
 pub struct Made {
     pub runner: Runner,
@@ -15,23 +15,23 @@ fn after(runner: Runner, told: Encoded) -> Made {
 pub fn load(runner: Runner, file: &[u8]) -> Made {
     let loading = runner.load(file);
     let told = loading.told;
-    after(loading.runner, told::of_load(told))
+    after(loading.runner, encoding::of_load(told))
 }
 
 pub fn begin(runner: Runner, a: Arguments, inputs: &[u32]) -> Made {
     let begun = runner.begin(a.mode, inputs, a.allowed, a.limit);
     let told = begun.told;
-    after(begun.runner, told::of_verdict(told))
+    after(begun.runner, encoding::of_verdict(told))
 }
 
 pub fn advance(runner: Runner, m: u32) -> Made {
     let advanced = runner.advance(m);
     let told = advanced.told;
-    after(advanced.runner, told::of_advance(told))
+    after(advanced.runner, encoding::of_advance(told))
 }
 
 pub fn rewrite(runner: Runner) -> Made {
     let rewritten = runner.rewrite();
     let told = rewritten.told;
-    after(rewritten.runner, told::of_verdict(told))
+    after(rewritten.runner, encoding::of_verdict(told))
 }

@@ -10,10 +10,10 @@ use test_samples::files;
 use test_samples::files::File;
 use test_samples::files::byte;
 use test_second::Model;
-use test_second::Turn;
+use test_second::Outcome;
 use test_text::text::part;
-use told::Encoded;
-use told::kinds;
+use encoding::Encoded;
+use encoding::kinds;
 
 // `told` is what the last call told, and `whole` the answer of a copy of the model that was
 // advanced at once by the whole limit of the last run. `inputs` and `boxes` are those of the chart
@@ -37,7 +37,7 @@ pub struct Pair {
 }
 
 pub fn new() -> Pair {
-    let told = told::make(kinds::DONE, 0, 0);
+    let told = encoding::make(kinds::DONE, 0, 0);
     Pair {
         runner: Runner::new(),
         model: Model::new(),
@@ -74,9 +74,9 @@ fn same_part(part: &[u8], file: &[u8], at: usize) -> bool {
 // What the model tells of a box shown: where its ten bytes start, or 0.
 fn shown(file: &[u8], at: usize) -> Encoded {
     if at == 0 {
-        return told::make(kinds::SHOWN, 0, 0);
+        return encoding::make(kinds::SHOWN, 0, 0);
     }
-    told::make(kinds::SHOWN, 10, byte(file, at))
+    encoding::make(kinds::SHOWN, 10, byte(file, at))
 }
 
 fn same_buffers(one: &[u8; 2640], two: &[u8; 2640]) -> bool {
@@ -89,7 +89,7 @@ fn goes_back(file: &[u8], buffer: &[u8; 2640], start: usize) -> bool {
     let all: &[u8] = buffer;
     let length = file.len();
     let end = std::num::wrapping_add_usize(start, length);
-    let told = told::of_written(convert::convert(part(all, start, end), &mut back));
+    let told = encoding::of_written(convert::convert(part(all, start, end), &mut back));
     (told.kind == kinds::WRITTEN) & check::same(part(&back, 0, length), file)
 }
 
@@ -151,7 +151,7 @@ impl Pair {
     }
 
     // The same of a call that changes both.
-    fn turn(mut self, what: &[u8], next: Runner, first: Encoded, turn: Turn, done: u32) -> Pair {
+    fn turn(mut self, what: &[u8], next: Runner, first: Encoded, turn: Outcome, done: u32) -> Pair {
         let model = turn.model;
         self.runner = next;
         self.model = model;
@@ -162,7 +162,7 @@ impl Pair {
         let loaded = self.runner.load(file);
         let next = loaded.runner;
         let t = loaded.told;
-        self.turn(b"load", next, told::of_load(t), self.model.load(file), 0)
+        self.turn(b"load", next, encoding::of_load(t), self.model.load(file), 0)
             .hold(byte(file, 4))
     }
 
@@ -190,7 +190,7 @@ impl Pair {
         self.turn(
                 b"begin",
                 next,
-                told::of_verdict(t),
+                encoding::of_verdict(t),
                 turn,
                 counts::BEGUN + mode % 3,
             )
@@ -224,7 +224,7 @@ impl Pair {
         self.turn(
                 b"advance",
                 next,
-                told::of_advance(t),
+                encoding::of_advance(t),
                 self.model.advance(m),
                 0,
             )
@@ -255,7 +255,7 @@ impl Pair {
     // The answer does not depend on the cuts: it is also that of the whole limit at once.
     pub fn answer(self) -> Pair {
         let whole = self.whole;
-        let first = told::of_answer(self.runner.answer());
+        let first = encoding::of_answer(self.runner.answer());
         let pair = self.settle(b"answer", first, self.model.answer(), 0);
         if (first.kind == kinds::REFUSED) | compare::same(first, whole) {
             return pair;
@@ -270,7 +270,7 @@ impl Pair {
         self.turn(
             b"abandon",
             next,
-            told::of_verdict(t),
+            encoding::of_verdict(t),
             self.model.abandon(),
             counts::DROPPED,
         )
@@ -284,7 +284,7 @@ impl Pair {
         self.turn(
                 b"rewrite",
                 next,
-                told::of_verdict(t),
+                encoding::of_verdict(t),
                 self.model.rewrite(),
                 counts::REWRITTEN,
             )
@@ -295,7 +295,7 @@ impl Pair {
     // than before.
     fn hold_rewritten(self, before: Runner) -> Pair {
         let t = self.told;
-        let chart = told::make(kinds::CHART, self.inputs as u64, self.boxes);
+        let chart = encoding::make(kinds::CHART, self.inputs as u64, self.boxes);
         if t.kind != kinds::DONE {
             return self;
         }
@@ -319,7 +319,7 @@ impl Pair {
         let end = start + room % 2601;
         let mut one = [byte; 2640];
         let mut two = [byte; 2640];
-        let first = told::of_written(self.runner.write_back(&mut one[start..end]));
+        let first = encoding::of_written(self.runner.write_back(&mut one[start..end]));
         let second = self.model.write_back(&mut two[start..end]);
         let alike = same_buffers(&one, &two);
         let pair = self.settle(b"write back", first, second, 0);
@@ -343,7 +343,7 @@ impl Pair {
         let end = start + room % 2601;
         let mut one = [filled; 2640];
         let mut two = [filled; 2640];
-        let first = told::of_written(convert::convert(file, &mut one[start..end]));
+        let first = encoding::of_written(convert::convert(file, &mut one[start..end]));
         let second = compare::of_model(test_second::convert(file, &mut two[start..end]));
         self.told = first;
         self.calls = std::num::wrapping_add_u32(self.calls, 1);
@@ -384,7 +384,7 @@ impl Pair {
     pub fn show(mut self, file: &[u8], number: u32) -> Pair {
         let part = chart::show_box(file, number);
         let at = test_second::show(file, number);
-        let first = told::make(kinds::SHOWN, part.len() as u64, byte(part, 0));
+        let first = encoding::make(kinds::SHOWN, part.len() as u64, byte(part, 0));
         let second = shown(file, at);
         self.told = first;
         self.calls = std::num::wrapping_add_u32(self.calls, 1);

@@ -14,8 +14,8 @@
 //   8 rewrite
 // A kind from 9 on is no call: it tells `NO_CALL`, and nothing is done.
 use runner::Runner;
-use told::Encoded;
-use told::kinds;
+use encoding::Encoded;
+use encoding::kinds;
 ghost use Prim.Native.Nat.{min};
 ghost use mathlib.Core.Path.{_≡_};
 
@@ -69,7 +69,7 @@ fn load(runner: Runner, file: &[u8]) -> Turn {
     let loading = runner.load(file);
     let next = loading.runner;
     let told = loading.told;
-    after(next, told::of_load(told), 0)
+    after(next, encoding::of_load(told), 0)
 }
 
 fn begin(runner: Runner, words: &[u32]) -> Turn {
@@ -87,38 +87,38 @@ fn begin(runner: Runner, words: &[u32]) -> Turn {
     );
     let next = begun.runner;
     let told = begun.told;
-    after(next, told::of_verdict(told), 0)
+    after(next, encoding::of_verdict(told), 0)
 }
 
 fn advance(runner: Runner, amount: u32) -> Turn {
     let advanced = runner.advance(amount);
     let next = advanced.runner;
     let told = advanced.told;
-    after(next, told::of_advance(told), 0)
+    after(next, encoding::of_advance(told), 0)
 }
 
 fn abandon(runner: Runner) -> Turn {
     let dropped = runner.abandon();
     let next = dropped.runner;
     let told = dropped.told;
-    after(next, told::of_verdict(told), 0)
+    after(next, encoding::of_verdict(told), 0)
 }
 
 fn write(runner: Runner, room: u32, buf: &mut [u8]) -> Turn {
     let end = least(room as usize, buf.len());
-    let told = told::of_written(runner.write_back(&mut buf[..end]));
+    let told = encoding::of_written(runner.write_back(&mut buf[..end]));
     after(runner, told, sum_of(buf))
 }
 
 fn show(runner: Runner, file: &[u8], number: u32) -> Turn {
     let shown = chart::show_box(file, number);
-    let told = told::make(kinds::SHOWN, shown.len() as u64, 0);
+    let told = encoding::make(kinds::SHOWN, shown.len() as u64, 0);
     after(runner, told, sum_of(shown))
 }
 
 fn convert(runner: Runner, file: &[u8], room: u32, buf: &mut [u8]) -> Turn {
     let end = least(room as usize, buf.len());
-    let told = told::of_written(convert::convert(file, &mut buf[..end]));
+    let told = encoding::of_written(convert::convert(file, &mut buf[..end]));
     after(runner, told, sum_of(buf))
 }
 
@@ -126,7 +126,7 @@ fn rewrite(runner: Runner) -> Turn {
     let rewritten = runner.rewrite();
     let next = rewritten.runner;
     let told = rewritten.told;
-    after(next, told::of_verdict(told), 0)
+    after(next, encoding::of_verdict(told), 0)
 }
 
 // One call.
@@ -138,13 +138,13 @@ fn make(runner: Runner, files: &[u8], words: &[u32], buf: &mut [u8]) -> Turn {
         0 => load(runner, file),
         1 => begin(runner, words),
         2 => advance(runner, first),
-        3 => after(runner, told::of_answer(runner.answer()), 0),
+        3 => after(runner, encoding::of_answer(runner.answer()), 0),
         4 => abandon(runner),
         5 => write(runner, first, buf),
         6 => show(runner, file, third),
         7 => convert(runner, file, third, buf),
         8 => rewrite(runner),
-        _ => after(runner, told::make(NO_CALL, 0, 0), 0),
+        _ => after(runner, encoding::make(NO_CALL, 0, 0), 0),
     }
 }
 

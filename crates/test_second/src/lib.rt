@@ -19,7 +19,7 @@ use choices::rewritten;
 use editions::differing_box;
 use editions::in_other_edition;
 use machine::Run;
-use machine::begun;
+use machine::started;
 use machine::bit;
 use machine::stepped;
 use machine::stopped;
@@ -53,7 +53,7 @@ pub struct Model {
 }
 
 // The model that follows a call, and what the call tells.
-pub struct Turn {
+pub struct Outcome {
     pub model: Model,
     pub told: Told,
 }
@@ -75,7 +75,7 @@ fn counted(kind: u32, first: u32) -> Told {
 }
 
 // The first 2,560 bytes of a file, zeros after its end.
-fn kept(file: &[u8]) -> [u8; 2560] {
+fn padded(file: &[u8]) -> [u8; 2560] {
     let mut bytes = [0u8; 2560];
     for i in 0..2560 {
         if i < file.len() {
@@ -176,15 +176,15 @@ impl Model {
     }
 
     // The refusal of a call: the model is as it was.
-    fn turned_away(self, number: u32, detail: u32) -> Turn {
-        Turn {
+    fn turned_away(self, number: u32, detail: u32) -> Outcome {
+        Outcome {
             model: self,
             told: refused(number, detail),
         }
     }
 
     // Replaces the chart and forgets an ended run.
-    pub fn load(mut self, file: &[u8]) -> Turn {
+    pub fn load(mut self, file: &[u8]) -> Outcome {
         let phase = self.phase;
         if phase == 1 {
             return self.turned_away(22, 0);
@@ -195,7 +195,7 @@ impl Model {
         if number != 0 {
             return self.turned_away(number, detail);
         }
-        let bytes = kept(file);
+        let bytes = padded(file);
         self.file = bytes;
         self.length = size_of(file);
         self.phase = 0;
@@ -205,11 +205,11 @@ impl Model {
             first: byte(file, 5),
             second: byte(file, 6),
         };
-        Turn { model: self, told }
+        Outcome { model: self, told }
     }
 
     // Starts a run at the first box and forgets an earlier ending.
-    pub fn begin(self, mode: u32, inputs: &[u32], allowed: u32, limit: u32) -> Turn {
+    pub fn begin(self, mode: u32, inputs: &[u32], allowed: u32, limit: u32) -> Outcome {
         let length = self.length;
         let phase = self.phase;
         if length == 0 {
@@ -227,15 +227,15 @@ impl Model {
         }
         let vars = filled(inputs);
         let steps = if limit == 0 { 4096 } else { limit };
-        let run = begun(vars, withheld(k, allowed), mode, first, steps);
-        Turn {
+        let run = started(vars, withheld(k, allowed), mode, first, steps);
+        Outcome {
             model: self.with_run(run),
             told: counted(0, 0),
         }
     }
 
     // Puts a choice in the place of each decision between two copies, and forgets an ended run.
-    pub fn rewrite(mut self) -> Turn {
+    pub fn rewrite(mut self) -> Outcome {
         let length = self.length;
         let phase = self.phase;
         let file = self.file;
@@ -252,7 +252,7 @@ impl Model {
         self.file = after;
         self.phase = 0;
         self.carried = 0;
-        Turn {
+        Outcome {
             model: self,
             told: counted(0, 0),
         }
@@ -261,7 +261,7 @@ impl Model {
     // Runs `m` boxes, or fewer where the run ends. A high-water run is advanced by its whole limit
     // or
     // not at all, and tells no steps here: answer tells them with a value.
-    pub fn advance(self, m: u32) -> Turn {
+    pub fn advance(self, m: u32) -> Outcome {
         let phase = self.phase;
         let limit = self.limit;
         let high_water = self.mode == 2;
@@ -275,20 +275,20 @@ impl Model {
         let run = stepped(self.run(), &file, m);
         let kind = if run.phase == 1 { 2 } else { 3 };
         let steps = if high_water { 0 } else { run.steps };
-        Turn {
+        Outcome {
             model: self.with_run(run),
             told: counted(kind, steps),
         }
     }
 
     // Drops the run under way.
-    pub fn abandon(self) -> Turn {
+    pub fn abandon(self) -> Outcome {
         let phase = self.phase;
         if phase != 1 {
             return self.turned_away(23, 0);
         }
         let run = stopped(self.run(), 0, 0);
-        Turn {
+        Outcome {
             model: self.with_run(run),
             told: counted(0, 0),
         }
@@ -364,7 +364,7 @@ pub fn convert(file: &[u8], buf: &mut [u8]) -> Told {
     if buf.len() < count {
         return refused(12, 0);
     }
-    let bytes = in_other_edition(kept(file));
+    let bytes = in_other_edition(padded(file));
     copied(&bytes, buf, count);
     counted(8, length)
 }

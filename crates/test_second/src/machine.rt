@@ -48,7 +48,7 @@ fn alone(set: u32) -> [u32; 16] {
 }
 
 // A run at box `first`, with the inputs in `set` withheld.
-pub fn begun(vars: [u32; 32], set: u32, mode: u32, first: u32, limit: u32) -> Run {
+pub fn started(vars: [u32; 32], set: u32, mode: u32, first: u32, limit: u32) -> Run {
     let marks = alone(set);
     Run {
         vars,

@@ -1,8 +1,8 @@
 // Follows the chart of docs/WALKTHROUGH.md from its file to its answers and back to a file, to a
 // file of the other edition, and to a rewritten chart, and prints each stage.
 use runner::Runner;
-use told::Encoded;
-use told::kinds;
+use encoding::Encoded;
+use encoding::kinds;
 
 // Input 0 of every run: the tenant's own probe took so many milliseconds.
 const LATENCY: u32 = 700;
@@ -146,7 +146,7 @@ fn print_allowed() {
 fn load(runner: Runner, words: &[u8], file: &[u8]) -> Runner {
     let loaded = runner.load(file);
     let told = loaded.told;
-    print_told(words, told::of_load(told));
+    print_told(words, encoding::of_load(told));
     loaded.runner
 }
 
@@ -158,14 +158,14 @@ fn begin_run(runner: Runner, words: &[u8], mode: u32, connections: u32) -> Runne
     say(b"\n");
     let begun = runner.begin(mode, &inputs, ALLOWED, 0);
     let verdict = begun.told;
-    print_told(b"  begin: ", told::of_verdict(verdict));
+    print_told(b"  begin: ", encoding::of_verdict(verdict));
     begun.runner
 }
 
 fn advance(runner: Runner, words: &[u8], m: u32) -> Runner {
     let advanced = runner.advance(m);
     let told = advanced.told;
-    print_told(words, told::of_advance(told));
+    print_told(words, encoding::of_advance(told));
     advanced.runner
 }
 
@@ -174,7 +174,7 @@ fn run(runner: Runner, words: &[u8], mode: u32, connections: u32) -> Runner {
     let begun = begin_run(runner, words, mode, connections);
     let some = advance(begun, b"  advance by 2: ", 2);
     let last = advance(some, b"  advance by 4096: ", 4096);
-    print_told(b"  answer: ", told::of_answer(last.answer()));
+    print_told(b"  answer: ", encoding::of_answer(last.answer()));
     last
 }
 
@@ -206,7 +206,7 @@ fn print_buffer(file: &[u8], buffer: &[u8; 1100]) {
 fn write_back(runner: Runner, file: &[u8]) {
     let mut buffer = [170u8; 1100];
     let written = runner.write_back(&mut buffer);
-    print_told(b"write back: ", told::of_written(written));
+    print_told(b"write back: ", encoding::of_written(written));
     print_buffer(file, &buffer);
 }
 
@@ -270,7 +270,7 @@ fn are_the_file(bytes: &[u8; 1024], file: &[u8]) -> bool {
 
 fn convert(words: &[u8], file: &[u8], buffer: &mut [u8; 1024]) {
     let told = convert::convert(file, &mut buffer[..]);
-    print_told(words, told::of_written(told));
+    print_told(words, encoding::of_written(told));
 }
 
 // The file of edition 2, and what it is converted back to.
@@ -307,7 +307,7 @@ fn conversions(runner: Runner, file: &[u8]) -> [u8; 1024] {
 fn rewrite(runner: Runner) -> Runner {
     let rewritten = runner.rewrite();
     let told = rewritten.told;
-    print_told(b"rewrite: ", told::of_verdict(told));
+    print_told(b"rewrite: ", encoding::of_verdict(told));
     rewritten.runner
 }
 

@@ -13,9 +13,9 @@ use Rattle.line.specs.Parsing.{parse}
 use Rattle.line.proofs.Parsed.{parse-first}
 use Rattle.runner.specs.declared.Runner.{Runner}
 use Rattle.reply.specs.Reply.{respond}
-use Rattle.transcript.specs.Lines.{begun, linesIn, wholeLines}
+use Rattle.transcript.specs.Lines.{prefixed, linesIn, wholeLines}
 use Rattle.transcript.specs.Transcript.{answers}
-use Rattle.transcript.specs.Session.{following, kept}
+use Rattle.transcript.specs.Session.{following, clipped}
 use Rattle.transcript.proofs.Lines.{clash, lastLine}
 
 unfoldable pub counted : Runner → ℕ → List (List ℕ) → List ℕ
@@ -40,41 +40,41 @@ unfolding attached lastLine
 attached-none e [] = refl
 attached-none e (line ∷ lines) = refl
 
-attached-begun : (e : Bool) (b : ℕ) (u : List ℕ) (lines : List (List ℕ)) → begun e b (attached e u lines) ≡ attached e (b ∷ u) lines
-unfolding attached begun lastLine
-attached-begun true b [] [] = refl
-attached-begun true b (c ∷ u) [] = refl
-attached-begun false b [] [] = refl
-attached-begun false b (c ∷ u) [] = refl
-attached-begun true b u (line ∷ lines) = refl
-attached-begun false b u (line ∷ lines) = refl
+attached-prefixed : (e : Bool) (b : ℕ) (u : List ℕ) (lines : List (List ℕ)) → prefixed e b (attached e u lines) ≡ attached e (b ∷ u) lines
+unfolding attached prefixed lastLine
+attached-prefixed true b [] [] = refl
+attached-prefixed true b (c ∷ u) [] = refl
+attached-prefixed false b [] [] = refl
+attached-prefixed false b (c ∷ u) [] = refl
+attached-prefixed true b u (line ∷ lines) = refl
+attached-prefixed false b u (line ∷ lines) = refl
 
-none-begun : (b : ℕ) (lines : List (List ℕ)) → begun false b lines ≡ [] → lines ≡ []
-unfolding begun
-none-begun b [] q = refl
-none-begun b (line ∷ lines) q = clash cc
+none-prefixed : (b : ℕ) (lines : List (List ℕ)) → prefixed false b lines ≡ [] → lines ≡ []
+unfolding prefixed
+none-prefixed b [] q = refl
+none-prefixed b (line ∷ lines) q = clash cc
 
 lines-attached : (e : Bool) (u more : List ℕ) → wholeLines u ≡ [] → linesIn e (u ++ more) ≡ attached e u (linesIn e more)
 unfolding linesIn
 lines-attached e [] more w = attached-none e (linesIn e more)
 lines-attached e (b ∷ u) more w = by (eqb b 10) w (lines-attached e u more)
   where
-    by : (t : Bool) → cond t ([] ∷ wholeLines u) (begun false b (wholeLines u)) ≡ [] → (wholeLines u ≡ [] → linesIn e (u ++ more) ≡ attached e u (linesIn e more))
-        → cond t ([] ∷ linesIn e (u ++ more)) (begun e b (linesIn e (u ++ more))) ≡ attached e (b ∷ u) (linesIn e more)
+    by : (t : Bool) → cond t ([] ∷ wholeLines u) (prefixed false b (wholeLines u)) ≡ [] → (wholeLines u ≡ [] → linesIn e (u ++ more) ≡ attached e u (linesIn e more))
+        → cond t ([] ∷ linesIn e (u ++ more)) (prefixed e b (linesIn e (u ++ more))) ≡ attached e (b ∷ u) (linesIn e more)
     by true q h = clash cc
-    by false q h = ap (begun e b) (h (none-begun b (wholeLines u) q)) ∙ attached-begun e b u (linesIn e more)
+    by false q h = ap (prefixed e b) (h (none-prefixed b (wholeLines u) q)) ∙ attached-prefixed e b u (linesIn e more)
 
 -- The first bytes of a line that has not ended have no newline.
 first-bytes : (n : ℕ) (u : List ℕ) → wholeLines u ≡ [] → wholeLines (take n u) ≡ []
-unfolding linesIn begun
+unfolding linesIn prefixed
 first-bytes zero u w = refl
 first-bytes (suc n) [] w = refl
 first-bytes (suc n) (b ∷ u) w = by (eqb b 10) w (first-bytes n u)
   where
-    by : (t : Bool) → cond t ([] ∷ wholeLines u) (begun false b (wholeLines u)) ≡ [] → (wholeLines u ≡ [] → wholeLines (take n u) ≡ [])
-        → cond t ([] ∷ wholeLines (take n u)) (begun false b (wholeLines (take n u))) ≡ []
+    by : (t : Bool) → cond t ([] ∷ wholeLines u) (prefixed false b (wholeLines u)) ≡ [] → (wholeLines u ≡ [] → wholeLines (take n u) ≡ [])
+        → cond t ([] ∷ wholeLines (take n u)) (prefixed false b (wholeLines (take n u))) ≡ []
     by true q h = clash cc
-    by false q h = ap (begun false b) (h (none-begun b (wholeLines u) q))
+    by false q h = ap (prefixed false b) (h (none-prefixed b (wholeLines u) q))
 
 -- A line is read by its first 256 bytes.
 module _ (r : Runner) (u v : List ℕ) (wu : wholeLines u ≡ []) (wv : wholeLines v ≡ []) (same : take 256 u ≡ take 256 v) where
@@ -104,6 +104,6 @@ module _ (r : Runner) (u v : List ℕ) (wu : wholeLines u ≡ []) (wv : wholeLin
 
 -- What is kept is answered as the whole.
 pub counted-kept : (r : Runner) (count : ℕ) (e : Bool) (bytes more : List ℕ) → wholeLines bytes ≡ []
-    → counted r count (linesIn e (kept bytes ++ more)) ≡ counted r count (linesIn e (bytes ++ more))
+    → counted r count (linesIn e (clipped bytes ++ more)) ≡ counted r count (linesIn e (bytes ++ more))
 counted-kept r count e bytes more w =
-    counted-alike r (kept bytes) bytes (first-bytes 256 bytes w) w (take-take 256 256 bytes (omega arith)) count e more
+    counted-alike r (clipped bytes) bytes (first-bytes 256 bytes w) w (take-take 256 256 bytes (omega arith)) count e more

@@ -21,7 +21,7 @@ use Rattle.texts.specs.Printing.{printed, printedLength}
 use Rattle.runner.specs.declared.Runner.{Runner}
 use Rattle.reply.specs.Reply.{respond}
 use Rattle.transcript.specs.Lines.{linesIn}
-use Rattle.transcript.specs.Session.{following, Portion, none, onto, portion, feed, fedOf, kept}
+use Rattle.transcript.specs.Session.{following, Portion, none, onto, portion, feed, fedOf, clipped}
 use Rattle.transcript.proofs.Lines.{lastLine, first-line, last-line}
 
 pub drop-min : (n : ℕ) (l : List ℕ) → drop (min n (length l)) l ≡ drop n l
@@ -301,14 +301,14 @@ module _ (buffer₀ : List ℕ) (at last : ℕ) where
               ∙ ap (λ (n : ℕ). take (count + 1) (drop at buffer₀) ++ drop n buffer₀) (length-take-le (count + 1) (drop at buffer₀) (omega arith));
         }
 
-    keeps-all : (last ≤ from) ⊎ (count ≡ 256) → (count ≡ length (kept (drop at (take last buffer₀)))) × (buffer ≡ kept (drop at (take last buffer₀)) ++ drop count buffer₀)
+    keeps-all : (last ≤ from) ⊎ (count ≡ 256) → (count ≡ length (clipped (drop at (take last buffer₀)))) × (buffer ≡ clipped (drop at (take last buffer₀)) ++ drop count buffer₀)
     keeps-all w =
         let place = h .place in
         let there = h .there in
         let few = h .few in
         let gap = length-drop at buffer₀ in
-        let all : kept (drop at (take last buffer₀)) ≡ take count (drop at buffer₀) = ap (take 256) (drop-take at last buffer₀) ∙ by w in
-        let long : length (kept (drop at (take last buffer₀))) ≡ count = ap length all ∙ front-long (omega arith) in
+        let all : clipped (drop at (take last buffer₀)) ≡ take count (drop at buffer₀) = ap (take 256) (drop-take at last buffer₀) ∙ by w in
+        let long : length (clipped (drop at (take last buffer₀))) ≡ count = ap length all ∙ front-long (omega arith) in
         (sym long, h .moved ∙ ap (λ (x : List ℕ). x ++ drop count buffer₀) (sym all))
       where
         by : (last ≤ from) ⊎ (count ≡ 256) → take 256 (take (last - at) (drop at buffer₀)) ≡ take count (drop at buffer₀)
@@ -317,10 +317,10 @@ module _ (buffer₀ : List ℕ) (at last : ℕ) where
             take-all 256 (take (last - at) (drop at buffer₀)) (omega (arith, length-take (last - at) (drop at buffer₀), h .few)) ∙ ap (λ (n : ℕ). take n (drop at buffer₀)) whole
         by (inr e) = take-take 256 (last - at) (drop at buffer₀) (omega (arith, h .there)) ∙ ap (λ (n : ℕ). take n (drop at buffer₀)) (sym e)
 
-pub kept-all : (buffer₀ : List ℕ) (at end last : ℕ) → last ≡ min end (length buffer₀) → (buffer : List ℕ) (count from : ℕ)
+pub clipped-all : (buffer₀ : List ℕ) (at end last : ℕ) → last ≡ min end (length buffer₀) → (buffer : List ℕ) (count from : ℕ)
     → Keeps buffer₀ at last buffer count from → (last ≤ from) ⊎ (count ≡ 256)
-    → (count ≡ length (kept (drop at (take end buffer₀)))) × (buffer ≡ kept (drop at (take end buffer₀)) ++ drop count buffer₀)
-kept-all buffer₀ at end last e buffer count from h w =
+    → (count ≡ length (clipped (drop at (take end buffer₀)))) × (buffer ≡ clipped (drop at (take end buffer₀)) ++ drop count buffer₀)
+clipped-all buffer₀ at end last e buffer count from h w =
     let same : take last buffer₀ ≡ take end buffer₀ = ap (λ (n : ℕ). take n buffer₀) e ∙ take-min end buffer₀ in
-    subst (λ (x : List ℕ). (count ≡ length (kept (drop at x))) × (buffer ≡ kept (drop at x) ++ drop count buffer₀)) same
+    subst (λ (x : List ℕ). (count ≡ length (clipped (drop at x))) × (buffer ≡ clipped (drop at x) ++ drop count buffer₀)) same
     (keeps-all buffer₀ at last (omega arith) buffer count from h w)

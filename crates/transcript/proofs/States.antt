@@ -13,7 +13,7 @@ use lib.Signed.{ltZ}
 use borrow.Author.Tests.{ltb-true, lt-ltb, le-ltb}
 use Rattle.io.specs.Counts.{Counts, clamped}
 use Rattle.lists.proofs.Parts.{take-min}
-use Rattle.transcript.specs.Session.{Portion, feed, fedOf, kept, turn, read, stop, wantedOf, stateOf, received, readBy}
+use Rattle.transcript.specs.Session.{Portion, feed, fedOf, clipped, turn, read, stop, wantedOf, sessionState, received, afterRead}
 use Rattle.runner.specs.declared.Runner.{Runner}
 use Rattle.transcript.specs.declared.Session.{Session}
 use Rattle.transcript.specs.declared.Fed.{Fed}
@@ -38,8 +38,8 @@ module _ (b : List ℕ) (s : Session) (end at : ℕ) (e : end ≡ min (s .end) (
   behind = ap (λ (n : ℕ). drop n b) e ∙ drop-min (s .end) b
 
   pub read-failed : (got : ℤ) → ltZ got (pos 0) ≡ true
-      → stateOf (record { count = s .count; at = at; end = at; over = true }) b ≡ readBy got (drop (s .end) b) (stateOf s b)
-  unfolding readBy
+      → sessionState (record { count = s .count; at = at; end = at; over = true }) b ≡ afterRead got (drop (s .end) b) (sessionState s b)
+  unfolding afterRead
   read-failed (pos k) l = absurd (omega (arith, ltb-true k 0 l))
   read-failed (negsuc k) l =
       let none : at - at ≡ 0 = omega arith in
@@ -53,7 +53,7 @@ module _ (b : List ℕ) (s : Session) (end at : ℕ) (e : end ≡ min (s .end) (
     piece : take k (drop (s .end) b) ≡ take count (drop end b)
     piece = ap (take k) (sym behind) ∙ sym (take-min k (drop end b)) ∙ ap (λ (n : ℕ). take n (drop end b)) (ap (min k) (sym rest-long) ∙ sym c)
 
-    none : count ≡ 0 → stateOf (record { count = s .count; at = at; end = end; over = true }) b ≡ received (take k (drop (s .end) b)) (stateOf s b)
+    none : count ≡ 0 → sessionState (record { count = s .count; at = at; end = end; over = true }) b ≡ received (take k (drop (s .end) b)) (sessionState s b)
     unfolding received
     none z = rw (piece, z, at-hand) refl
 
@@ -64,33 +64,33 @@ module _ (b : List ℕ) (s : Session) (end at : ℕ) (e : end ≡ min (s .end) (
         ∙ ap (λ (x : List ℕ). x ++ take count (drop end b)) at-hand
         ∙ ap (λ (x : List ℕ). drop (s .at) (take (s .end) b) ++ x) (sym piece)
 
-    some : (count ≡ 0 → ⊥) → stateOf (record { count = s .count; at = at; end = end + count; over = s .over }) b ≡ received (take k (drop (s .end) b)) (stateOf s b)
+    some : (count ≡ 0 → ⊥) → sessionState (record { count = s .count; at = at; end = end + count; over = s .over }) b ≡ received (take k (drop (s .end) b)) (sessionState s b)
     unfolding received
     some z = ap (λ (x : List ℕ). record { count = s .count; bytes = x; over = s .over }) longer ∙ by (take k (drop (s .end) b)) (ap length piece ∙ many)
       where
         many : length (take count (drop end b)) ≡ count
         many = omega (arith, length-take count (drop end b), rest-long)
 
-        by : (x : List ℕ) → length x ≡ count → record { count = s .count; bytes = drop (s .at) (take (s .end) b) ++ x; over = s .over } ≡ received x (stateOf s b)
+        by : (x : List ℕ) → length x ≡ count → record { count = s .count; bytes = drop (s .at) (take (s .end) b) ++ x; over = s .over } ≡ received x (sessionState s b)
         by [] l = absurd (z (sym l))
         by (y ∷ x) l = refl
 
   module _ (got : ℤ) (l : ltZ got (pos 0) ≡ false) (count : ℕ) (c : count ≡ clamped got (length (take (length b - end) (drop end b)))) where
-    pub read-none : count ≡ 0 → stateOf (record { count = s .count; at = at; end = end; over = true }) b ≡ readBy got (drop (s .end) b) (stateOf s b)
-    unfolding readBy
+    pub read-none : count ≡ 0 → sessionState (record { count = s .count; at = at; end = end; over = true }) b ≡ afterRead got (drop (s .end) b) (sessionState s b)
+    unfolding afterRead
     read-none z = by got l c
       where
         by : (g : ℤ) → ltZ g (pos 0) ≡ false → count ≡ clamped g (length (take (length b - end) (drop end b)))
-            → stateOf (record { count = s .count; at = at; end = end; over = true }) b ≡ readBy g (drop (s .end) b) (stateOf s b)
+            → sessionState (record { count = s .count; at = at; end = end; over = true }) b ≡ afterRead g (drop (s .end) b) (sessionState s b)
         by (pos k) q w = none count k w z
         by (negsuc k) q w = absurd (false≢true (sym q))
 
-    pub read-some : (count ≡ 0 → ⊥) → stateOf (record { count = s .count; at = at; end = end + count; over = s .over }) b ≡ readBy got (drop (s .end) b) (stateOf s b)
-    unfolding readBy
+    pub read-some : (count ≡ 0 → ⊥) → sessionState (record { count = s .count; at = at; end = end + count; over = s .over }) b ≡ afterRead got (drop (s .end) b) (sessionState s b)
+    unfolding afterRead
     read-some z = by got l c
       where
         by : (g : ℤ) → ltZ g (pos 0) ≡ false → count ≡ clamped g (length (take (length b - end) (drop end b)))
-            → stateOf (record { count = s .count; at = at; end = end + count; over = s .over }) b ≡ readBy g (drop (s .end) b) (stateOf s b)
+            → sessionState (record { count = s .count; at = at; end = end + count; over = s .over }) b ≡ afterRead g (drop (s .end) b) (sessionState s b)
         by (pos k) q w = some count k w z
         by (negsuc k) q w = absurd (false≢true (sym q))
 
@@ -139,7 +139,7 @@ module _ (r : Runner) (b out₀ out : List ℕ) (s : Session) (end at : ℕ) (e 
     fits = omega (arith, taken-is, hand-long)
 
     pub turn-writes : 0 < f .taken → length out ≡ length out₀
-        → (wantedOf wanted.Write (take (f .length) out) (stateOf (record { count = f .count; at = at + f .taken; end = end; over = s .over }) b) ≡ turn r room (stateOf s b))
+        → (wantedOf wanted.Write (take (f .length) out) (sessionState (record { count = f .count; at = at + f .taken; end = end; over = s .over }) b) ≡ turn r room (sessionState s b))
         × ((end ≤ length b) × Counts (f .length) out)
     unfolding turn wantedOf p
     turn-writes l m =
@@ -167,20 +167,20 @@ module _ (r : Runner) (b out₀ out : List ℕ) (s : Session) (end at : ℕ) (e 
         by (yes l) = absurd (omega (arith, taken-is, some-taken r room (s .count) (s .over) hand l))
         by (no l) = omega arith
 
-    pub turn-stops : f .taken ≡ 0 → s .over ≡ true → (stop ≡ turn r room (stateOf s b)) × ((end ≤ length b) × Counts 0 out)
+    pub turn-stops : f .taken ≡ 0 → s .over ≡ true → (stop ≡ turn r room (sessionState s b)) × ((end ≤ length b) × Counts 0 out)
     unfolding turn p
     turn-stops z o =
         let none : p .taken ≡ 0 = nothing z in
         (rw (le-ltb 0 (p .taken) (omega arith), o) refl, (omega arith, (omega arith, refl)))
 
     pub turn-reads : f .taken ≡ 0 → s .over ≡ false → (b′ : List ℕ) (n : ℕ)
-        → (n ≡ length (kept (drop at (take end b)))) × (b′ ≡ kept (drop at (take end b)) ++ drop n b)
-        → (read (stateOf (record { count = s .count; at = 0; end = n; over = s .over }) b′) ≡ turn r room (stateOf s b)) × ((n ≤ length b′) × Counts 0 out)
+        → (n ≡ length (clipped (drop at (take end b)))) × (b′ ≡ clipped (drop at (take end b)) ++ drop n b)
+        → (read (sessionState (record { count = s .count; at = 0; end = n; over = s .over }) b′) ≡ turn r room (sessionState s b)) × ((n ≤ length b′) × Counts 0 out)
     unfolding turn p
     turn-reads z o b′ n k =
         let none : p .taken ≡ 0 = nothing z in
-        let moved : take n b′ ≡ kept hand
-        = ap (take n) (k .1) ∙ take-at (kept (drop at (take end b))) (drop n b) n (sym (k .0)) ∙ ap kept (at-hand b s end at e a) in (
+        let moved : take n b′ ≡ clipped hand
+        = ap (take n) (k .1) ∙ take-at (clipped (drop at (take end b))) (drop n b) n (sym (k .0)) ∙ ap clipped (at-hand b s end at e a) in (
           rw (le-ltb 0 (p .taken) (omega arith), o, moved) refl,
-          (omega (arith, k .0, ap length (k .1), length-append (kept (drop at (take end b))) (drop n b)), (omega arith, refl)),
+          (omega (arith, k .0, ap length (k .1), length-append (clipped (drop at (take end b))) (drop n b)), (omega arith, refl)),
         )

@@ -7,15 +7,15 @@ use lib.Dec.{eqb}
 
 -- A byte before the lines after it: the first of them goes on with it. Where there is none, it is
 -- the last line, if that may lack its newline.
-unfoldable pub begun : (lacking : Bool) → ℕ → List (List ℕ) → List (List ℕ)
-begun true b [] = (b ∷ []) ∷ []
-begun false b [] = []
-begun lacking b (line ∷ lines) = (b ∷ line) ∷ lines
+unfoldable pub prefixed : (lacking : Bool) → ℕ → List (List ℕ) → List (List ℕ)
+prefixed true b [] = (b ∷ []) ∷ []
+prefixed false b [] = []
+prefixed lacking b (line ∷ lines) = (b ∷ line) ∷ lines
 
 -- The lines of some bytes, without their newlines.
 unfoldable pub linesIn : (lacking : Bool) → List ℕ → List (List ℕ)
 linesIn lacking [] = []
-linesIn lacking (b ∷ bytes) = cond (eqb b 10) ([] ∷ linesIn lacking bytes) (begun lacking b (linesIn lacking bytes))
+linesIn lacking (b ∷ bytes) = cond (eqb b 10) ([] ∷ linesIn lacking bytes) (prefixed lacking b (linesIn lacking bytes))
 
 -- All lines of an input, and those that have ended.
 abbrev pub linesOf : List ℕ → List (List ℕ)

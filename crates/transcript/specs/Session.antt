@@ -61,15 +61,15 @@ pub data Turn : Type 0 where
 
 -- What is kept of a line that has not ended: "at most 255 bytes" makes a line of 256 ill-formed
 -- whatever follows.
-abbrev pub kept : List ℕ → List ℕ
-kept bytes = take 256 bytes
+abbrev pub clipped : List ℕ → List ℕ
+clipped bytes = take 256 bytes
 
 -- Lines that are ready are answered and written; else more is read, or the session stops.
 unfoldable pub turn : Runner → (room : ℕ) → State → Turn
 turn r room s =
     let p = feed r room (s .count) (s .over) (s .bytes) in
     cond (ltb 0 (p .taken)) (write (p .text) (record { count = p .count; bytes = drop (p .taken) (s .bytes); over = s .over }))
-    (cond (s .over) stop (read (record { count = s .count; bytes = kept (s .bytes); over = false })))
+    (cond (s .over) stop (read (record { count = s .count; bytes = clipped (s .bytes); over = false })))
 
 -- After a read: more bytes are at hand; no byte is the end of the input; and after a read that
 -- failed there is nothing to answer.
@@ -81,8 +81,8 @@ abbrev pub failed : State → State
 failed s = record { count = s .count; bytes = []; over = true }
 
 -- What the code holds and tells. The bytes at hand are those of a buffer from `at` to `end`.
-abbrev pub stateOf : Session → (buffer : List ℕ) → State
-stateOf s buffer = record { count = s .count; bytes = drop (s .at) (take (s .end) buffer); over = s .over }
+abbrev pub sessionState : Session → (buffer : List ℕ) → State
+sessionState s buffer = record { count = s .count; bytes = drop (s .at) (take (s .end) buffer); over = s .over }
 
 unfoldable pub wantedOf : Wanted → (text : List ℕ) → State → Turn
 wantedOf wanted.Write text s = write text s
@@ -90,10 +90,10 @@ wantedOf wanted.Read text s = read s
 wantedOf wanted.Stop text s = stop
 
 abbrev pub turnOf : Turned → (buffer out : List ℕ) → Turn
-turnOf t buffer out = wantedOf (t .wanted) (take (t .length) out) (stateOf (t .session) buffer)
+turnOf t buffer out = wantedOf (t .wanted) (take (t .length) out) (sessionState (t .session) buffer)
 
 -- What the code makes of the answer of a read, which put its bytes behind those at hand: a count of
 -- them, or a number below 0 where it failed.
-unfoldable pub readBy : ℤ → (behind : List ℕ) → State → State
-readBy (pos count) behind s = received (take count behind) s
-readBy (negsuc count) behind s = failed s
+unfoldable pub afterRead : ℤ → (behind : List ℕ) → State → State
+afterRead (pos count) behind s = received (take count behind) s
+afterRead (negsuc count) behind s = failed s

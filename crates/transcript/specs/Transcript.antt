@@ -4,7 +4,7 @@ use mathlib.Core.List.{List, [], _∷_, _++_}
 use mathlib.Core.Bool.{Bool, cond}
 use Rattle.runner.specs.State.{newRunner}
 use Rattle.runner.specs.declared.Runner.{Runner}
-use Rattle.reply.specs.Reply.{replyText, accepted, loaded, respond}
+use Rattle.reply.specs.Reply.{replyText, isAccepted, loading, respond}
 use Rattle.transcript.specs.Lines.{linesOf}
 
 -- So many bytes of a chart file are read at most: `serve` reads it into a buffer of this length.
@@ -19,13 +19,13 @@ answers r count (line ∷ lines) = respond r (count + 1) line ++ answers r (coun
 
 -- The text for a chart file, whether it is accepted, and the runner that holds it.
 abbrev pub chartLine : List ℕ → List ℕ
-chartLine file = replyText (loaded file newRunner .told .reply)
+chartLine file = replyText (loading file newRunner .told .reply)
 
 abbrev pub isChart : List ℕ → Bool
-isChart file = accepted (loaded file newRunner .told .reply)
+isChart file = isAccepted (loading file newRunner .told .reply)
 
 abbrev pub holder : List ℕ → Runner
-holder file = loaded file newRunner .next
+holder file = loading file newRunner .next
 
 -- The transcript of a chart file and an input. "A refused chart prints its refusal and ends."
 unfoldable pub transcript : (file input : List ℕ) → List ℕ

@@ -7,7 +7,7 @@ ghost use mathlib.Core.List.{_++_};
 ghost use Prim.Native.Nat.{_≤_, min};
 ghost use lib.ListN.{length, take, drop};
 ghost use Rattle.io.specs.Counts.{Counts};
-ghost use Rattle.transcript.specs.Session.{feed, fedOf, kept, turn, stateOf, turnOf, readBy};
+ghost use Rattle.transcript.specs.Session.{feed, fedOf, kept, turn, sessionState, turnOf, afterRead};
 
 // The number of lines so far, how many bytes of input were taken, and the length of the text.
 pub struct Fed {
@@ -98,7 +98,7 @@ pub fn keep(at: usize, end: usize, buffer: &mut [u8]) -> usize
 
 // A turn of a session, with the input's buffer and one for texts.
 pub fn turn(runner: Runner, session: Session, buffer: &mut [u8], out: &mut [u8]) -> Turned
-    ensures { λ r. ⌜ turnOf r (now (buffer .exit)) (now (out .exit)) ≡ turn runner (length (now (out .entry))) (stateOf session (now (buffer .entry))) ⌝ }
+    ensures { λ r. ⌜ turnOf r (now (buffer .exit)) (now (out .exit)) ≡ turn runner (length (now (out .entry))) (sessionState session (now (buffer .entry))) ⌝ }
     ensures { λ r. ⌜ r .session .end ≤ length (now (buffer .exit)) ⌝ }
     ensures { λ r. ⌜ Counts (r .length) (now (out .exit)) ⌝ }
 {
@@ -148,7 +148,7 @@ pub fn turn(runner: Runner, session: Session, buffer: &mut [u8], out: &mut [u8])
 
 // The session after a read that answered `got` and put its bytes behind those at hand.
 pub fn received(session: Session, got: isize, buffer: &[u8]) -> Session
-    ensures { λ r. ⌜ stateOf r (now (buffer .entry)) ≡ readBy got (drop (session .end) (now (buffer .entry))) (stateOf session (now (buffer .entry))) ⌝ }
+    ensures { λ r. ⌜ sessionState r (now (buffer .entry)) ≡ afterRead got (drop (session .end) (now (buffer .entry))) (sessionState session (now (buffer .entry))) ⌝ }
 {
     let end = lesser(session.end, buffer.len());
     let at = lesser(session.at, end);

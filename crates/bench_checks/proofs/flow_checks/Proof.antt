@@ -19,8 +19,8 @@ returns c = search needs
 first-vars-requires : tie.Need-first-vars-requires Inv-loop μ-loop
 first-vars-requires c κs = search needs
 
-loaded-requires : tie.Need-loaded-requires Inv-loop μ-loop
-loaded-requires c κs = search needs
+holding-requires : tie.Need-holding-requires Inv-loop μ-loop
+holding-requires c κs = search needs
 
 loop-holds : tie.Need-loop-holds Inv-loop μ-loop
 loop-holds c = search needs
@@ -76,7 +76,7 @@ flow-checks-spec =
     μ-loop
     returns
     first-vars-requires
-    loaded-requires
+    holding-requires
     loop-holds
     sub-left
     array-read-wrapping-add-u32

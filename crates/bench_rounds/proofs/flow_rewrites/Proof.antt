@@ -15,23 +15,23 @@ abbrev μ-loop : tie.MeasureT-loop
 add-end : tie.Need-add-end Inv-loop μ-loop
 add-end c = search needs
 
-slice-aggregate-loaded : tie.Need-slice-aggregate-loaded Inv-loop μ-loop
-slice-aggregate-loaded c = sym (length-take-le _ _ (search needs))
+slice-aggregate-holding : tie.Need-slice-aggregate-holding Inv-loop μ-loop
+slice-aggregate-holding c = sym (length-take-le _ _ (search needs))
 
-loaded-requires : tie.Need-loaded-requires Inv-loop μ-loop
-loaded-requires c κs = search needs
+holding-requires : tie.Need-holding-requires Inv-loop μ-loop
+holding-requires c κs = search needs
 
-sub-loaded : tie.Need-sub-loaded Inv-loop μ-loop
-sub-loaded c = search needs
+sub-holding : tie.Need-sub-holding Inv-loop μ-loop
+sub-holding c = search needs
 
-part-loaded-start : tie.Need-part-loaded-start Inv-loop μ-loop
-part-loaded-start c = search needs
+part-holding-start : tie.Need-part-holding-start Inv-loop μ-loop
+part-holding-start c = search needs
 
-part-loaded-end : tie.Need-part-loaded-end Inv-loop μ-loop
-part-loaded-end c = search needs
+part-holding-end : tie.Need-part-holding-end Inv-loop μ-loop
+part-holding-end c = search needs
 
-loaded-requires-2 : tie.Need-loaded-requires-2 Inv-loop μ-loop
-loaded-requires-2 c κs = search needs
+holding-requires-2 : tie.Need-holding-requires-2 Inv-loop μ-loop
+holding-requires-2 c κs = search needs
 
 new-requires : tie.Need-new-requires Inv-loop μ-loop
 new-requires c κs = search needs
@@ -85,12 +85,12 @@ flow-rewrites-spec =
     Inv-loop
     μ-loop
     add-end
-    slice-aggregate-loaded
-    loaded-requires
-    sub-loaded
-    part-loaded-start
-    part-loaded-end
-    loaded-requires-2
+    slice-aggregate-holding
+    holding-requires
+    sub-holding
+    part-holding-start
+    part-holding-end
+    holding-requires-2
     new-requires
     loop-holds
     add-i

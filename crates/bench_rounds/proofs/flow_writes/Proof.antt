@@ -12,8 +12,8 @@ Inv-loop file buf₀ rounds runner sum₀ i₀ buf sum i = (i ≤ rounds) × (le
 abbrev μ-loop : tie.MeasureT-loop
 μ-loop file buf₀ rounds runner sum₀ i₀ buf sum i = rounds - i
 
-loaded-requires : tie.Need-loaded-requires Inv-loop μ-loop
-loaded-requires c κs = search needs
+holding-requires : tie.Need-holding-requires Inv-loop μ-loop
+holding-requires c κs = search needs
 
 loop-holds : tie.Need-loop-holds Inv-loop μ-loop
 loop-holds c = search needs
@@ -57,7 +57,7 @@ flow-writes-spec =
     (tie.spec
     Inv-loop
     μ-loop
-    loaded-requires
+    holding-requires
     loop-holds
     write-back-requires
     of-written-requires

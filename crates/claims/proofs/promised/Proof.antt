@@ -6,7 +6,7 @@ use Rattle.claims.proofs.ChartLaws.{held-obeys, runs-in-range, ends-in-
 use Rattle.claims.proofs.Marking.{empty-where-unmarked, sets-are-unions, union-and-kept, one-arithmetic, set-as-ruled, sets-only-name}
 use Rattle.claims.proofs.Naming.{marks-withheld, names-withheld, surveillance-names, others-name-none}
 use Rattle.claims.proofs.HighWater.{high-water-tells, high-water-answers, high-water-ends}
-use Rattle.claims.proofs.Editions.{others-alike, boxes-alike, counters-dont-wrap}
+use Rattle.claims.proofs.Editions.{others-alike, boxes-alike, second-saturates}
 use Rattle.claims.proofs.Replies.{replies-distinct}
 use Rattle.claims.proofs.Bounds.{answers-at-the-limit, runs-within-bounds, written-into-exact-room, held-within-bounds, states-within-bounds, names-within-bounds, keeps-one-input}
 use Rattle.claims.proofs.promised.Statement.{statement}
@@ -46,7 +46,7 @@ returns c = (
   high-water-ends,
   others-alike,
   boxes-alike,
-  counters-dont-wrap,
+  second-saturates,
   answers-at-the-limit,
   runs-within-bounds,
   written-into-exact-room,

@@ -4,7 +4,7 @@ use borrow.Author.Needs.{needs}
 use denote.Ref.{now}
 use Rattle.format.specs.File.{checkFile}
 use Rattle.format.specs.declared.Checked.the-variants.{Accepted}
-use Rattle.format.proofs.Accepted.{accepted}
+use Rattle.format.proofs.Passes.{passes}
 use Rattle.convert.proofs.Answers.{after-chart, after-refused}
 use Rattle.convert.proofs.check_conversion.Statement.{statement}
 use Rattle.convert.proofs.check_conversion.Tie as tie
@@ -22,7 +22,7 @@ enum-known-checked c = search needs
 check-chart-requires : tie.Need-check-chart-requires
 check-chart-requires c κs =
     let a = c .before .before .before .before .before .before .args in
-    (search needs, accepted (now (a .file)) _ (is-chart (c .before)) .fits)
+    (search needs, passes (now (a .file)) _ (is-chart (c .before)) .fits)
 
 enum-known-checked-2 : tie.Need-enum-known-checked-2
 enum-known-checked-2 c = search needs

@@ -21,32 +21,32 @@ add-next c = search needs
 element-copy-out-next : tie.Need-element-copy-out-next
 element-copy-out-next c = search needs
 
-add-word : tie.Need-add-word
-add-word c = search needs
+add-little-endian : tie.Need-add-little-endian
+add-little-endian c = search needs
 
-element-copy-out-word : tie.Need-element-copy-out-word
-element-copy-out-word c = search needs
+element-copy-out-little-endian : tie.Need-element-copy-out-little-endian
+element-copy-out-little-endian c = search needs
 
-add-word-2 : tie.Need-add-word-2
-add-word-2 c = search needs
+add-little-endian-2 : tie.Need-add-little-endian-2
+add-little-endian-2 c = search needs
 
-element-copy-out-word-2 : tie.Need-element-copy-out-word-2
-element-copy-out-word-2 c = search needs
+element-copy-out-little-endian-2 : tie.Need-element-copy-out-little-endian-2
+element-copy-out-little-endian-2 c = search needs
 
-add-word-3 : tie.Need-add-word-3
-add-word-3 c = search needs
+add-little-endian-3 : tie.Need-add-little-endian-3
+add-little-endian-3 c = search needs
 
-element-copy-out-word-3 : tie.Need-element-copy-out-word-3
-element-copy-out-word-3 c = search needs
+element-copy-out-little-endian-3 : tie.Need-element-copy-out-little-endian-3
+element-copy-out-little-endian-3 c = search needs
 
-add-word-4 : tie.Need-add-word-4
-add-word-4 c = search needs
+add-little-endian-4 : tie.Need-add-little-endian-4
+add-little-endian-4 c = search needs
 
-element-copy-out-word-4 : tie.Need-element-copy-out-word-4
-element-copy-out-word-4 c = search needs
+element-copy-out-little-endian-4 : tie.Need-element-copy-out-little-endian-4
+element-copy-out-little-endian-4 c = search needs
 
-word-requires : tie.Need-word-requires
-word-requires c κs = search needs
+little-endian-requires : tie.Need-little-endian-requires
+little-endian-requires c κs = search needs
 
 add-t14 : tie.Need-add-t14
 add-t14 c = search needs
@@ -76,7 +76,7 @@ returns-2 : tie.Need-returns-2
 returns-2 c =
     let w = c .before .before .before .before in
     let two = w .before .before .before .before .before in
-    assign-at _ _ _ (omega arith) (omega (arith, two .before .before .before .if1 .left)) _ (two .if2 .taken) (w .word .ensures)
+    assign-at _ _ _ (omega arith) (omega (arith, two .before .before .before .if1 .left)) _ (two .if2 .taken) (w .little-endian .ensures)
 
 add-t38 : tie.Need-add-t38
 add-t38 c = search needs
@@ -161,15 +161,15 @@ box-at-spec =
     element-copy-out-kind
     add-next
     element-copy-out-next
-    add-word
-    element-copy-out-word
-    add-word-2
-    element-copy-out-word-2
-    add-word-3
-    element-copy-out-word-3
-    add-word-4
-    element-copy-out-word-4
-    word-requires
+    add-little-endian
+    element-copy-out-little-endian
+    add-little-endian-2
+    element-copy-out-little-endian-2
+    add-little-endian-3
+    element-copy-out-little-endian-3
+    add-little-endian-4
+    element-copy-out-little-endian-4
+    little-endian-requires
     add-t14
     element-copy-out-t29
     add-t26

@@ -1,5 +1,5 @@
 -- `promised` holds the claims of this crate: each by its theorem.
-use Rattle.examples.proofs.Computed.{file-examples, marked-cases, naming-cases, hidden-cases, edition-cases, check-cases, conversion-cases, rewriting-cases, keeping-cases, blocks-exchanged}
+use Rattle.examples.proofs.Computed.{file-examples, paper-cases, naming-cases, hidden-cases, edition-cases, check-cases, conversion-cases, rewriting-cases, keeping-cases, blocks-exchanged}
 use Rattle.examples.proofs.Refuted.{bare-is-not-secret, another-mode-is-told, another-limit-is-told, bare-answers-more, smaller-limit-answers-less}
 use Rattle.examples.proofs.Refuted.{advances-part-at-the-end, no-load-during-a-run, another-load-is-told, high-water-names-none, surveillance-names-some}
 use Rattle.examples.proofs.Refuted.{high-water-advances-part, high-water-sum-ends-nothing, high-water-counts-no-boxes, surveillance-tells-counts, written-back-is-told, editions-end-apart}
@@ -12,7 +12,7 @@ use Rattle.examples.proofs.promised.Tie as tie
 returns : tie.Need-returns
 returns c = (
   file-examples,
-  marked-cases,
+  paper-cases,
   naming-cases,
   hidden-cases,
   edition-cases,

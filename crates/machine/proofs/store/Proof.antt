@@ -13,7 +13,7 @@ set-mark-requires c κs = search needs
 returns : tie.Need-returns
 returns c =
     let a = c .before .before .args in
-    stores (a .numbers) _ _ _ _ _ (c .before .variable .result .mark) (a .given .mark) (c .before .variable .ensures .1) (c .set-mark .ensures)
+    stores (a .masks) _ _ _ _ _ (c .before .variable .result .mark) (a .given .mark) (c .before .variable .ensures .1) (c .set-mark .ensures)
 
 pub store-spec : {M : Type 1} → statement M
 store-spec = tie.close (tie.spec variable-requires set-mark-requires returns)

@@ -9,11 +9,11 @@ mode-of-requires c κs = search needs
 hides-requires : tie.Need-hides-requires
 hides-requires c κs = search needs
 
-choose-requires : tie.Need-choose-requires
-choose-requires c κs = search needs
+select-requires : tie.Need-select-requires
+select-requires c κs = search needs
 
 returns : tie.Need-returns
-returns c = rw (c .choose .ensures, c .before .hides .ensures, c .before .before .mode-of .ensures)
+returns c = rw (c .select .ensures, c .before .hides .ensures, c .before .before .mode-of .ensures)
 
 pub standing-of-spec : {M : Type 1} → statement M
-standing-of-spec = tie.close (tie.spec mode-of-requires hides-requires choose-requires returns)
+standing-of-spec = tie.close (tie.spec mode-of-requires hides-requires select-requires returns)

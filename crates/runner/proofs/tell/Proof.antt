@@ -14,15 +14,15 @@ returns : tie.Need-returns
 unfolding advanceReply
 returns c = rw (c .before .enum-told .given .1, c .if1 .taken)
 
-choose-requires : tie.Need-choose-requires
-choose-requires c κs = search needs
+select-requires : tie.Need-select-requires
+select-requires c κs = search needs
 
 enum-known-verdict : tie.Need-enum-known-verdict
 enum-known-verdict c = search needs
 
 returns-2 : tie.Need-returns-2
 unfolding advanceReply
-returns-2 c = rw (c .before .before .enum-told .given .1, ne-eqb _ _ (c .before .if1 .left)) (ap ended (c .choose .ensures))
+returns-2 c = rw (c .before .before .enum-told .given .1, ne-eqb _ _ (c .before .if1 .left)) (ap ended (c .select .ensures))
 
 returns-3 : tie.Need-returns-3
 unfolding advanceReply
@@ -30,4 +30,4 @@ returns-3 c = rw (c .before .verdict .given .1)
 
 pub tell-spec : {M : Type 1} → statement M
 tell-spec =
-    tie.close (tie.spec enum-told returns choose-requires enum-known-verdict returns-2 returns-3)
+    tie.close (tie.spec enum-told returns select-requires enum-known-verdict returns-2 returns-3)

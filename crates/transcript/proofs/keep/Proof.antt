@@ -5,7 +5,7 @@ use native.Mathlib.Omega.{arith}
 use lib.ListN.{length}
 use denote.Ref.{now}
 use borrow.Author.Needs.{needs}
-use Rattle.transcript.proofs.Buffers.{Keeps, keeps-none, keeps-more, kept-all}
+use Rattle.transcript.proofs.Buffers.{Keeps, keeps-none, keeps-more, clipped-all}
 use Rattle.transcript.proofs.keep.Statement.{statement}
 use Rattle.transcript.proofs.keep.Tie as tie
 
@@ -51,7 +51,7 @@ returns : tie.Need-returns Inv-loop μ-loop
 returns c =
     let a = c .before .before .before .before .args in
     let l = c .before .loop in
-    kept-all (now (a .buffer)) (a .at) (a .end) (c .before .before .lesser .result) (c .before .before .lesser .ensures) (l .buffer) (l .count) (l .from) (l .inv .1) (inl (c .loop-test .left))
+    clipped-all (now (a .buffer)) (a .at) (a .end) (c .before .before .lesser .result) (c .before .before .lesser .ensures) (l .buffer) (l .count) (l .from) (l .inv .1) (inl (c .loop-test .left))
 
 same-length-2 : tie.Need-same-length-2 Inv-loop μ-loop
 same-length-2 c = search needs
@@ -61,7 +61,7 @@ returns-2 c =
     let a = c .before .before .before .before .before .args in
     let l = c .before .before .loop in
     let last = c .before .before .before .lesser in
-    kept-all (now (a .buffer)) (a .at) (a .end) (last .result) (last .ensures) (l .buffer) (l .count) (l .from) (l .inv .1) (inr (c .if1 .taken))
+    clipped-all (now (a .buffer)) (a .at) (a .end) (last .result) (last .ensures) (l .buffer) (l .count) (l .from) (l .inv .1) (inr (c .if1 .taken))
 
 pub keep-spec : {M : Type 1} → statement M
 keep-spec =

@@ -57,8 +57,8 @@ array-write-numbers c = search needs
 add-count : tie.Need-add-count Inv-loop μ-loop
 add-count c = search needs
 
-onward-requires : tie.Need-onward-requires Inv-loop μ-loop
-onward-requires c κs = search needs
+extended-requires : tie.Need-extended-requires Inv-loop μ-loop
+extended-requires c κs = search needs
 
 none-requires-4 : tie.Need-none-requires-4 Inv-loop μ-loop
 none-requires-4 c κs = search needs
@@ -67,7 +67,7 @@ returns-4 : tie.Need-returns-4 Inv-loop μ-loop
 returns-4 c =
     let l = c .before .before .before .before .before in
     c .none4 .ensures
-    ∙ no-byte (l .before .loop .inv) (l .loop-test .taken) (c .before .before .before .if2 .left) _ (c .before .before .onward .ensures) (c .before .if5 .taken)
+    ∙ no-byte (l .before .loop .inv) (l .loop-test .taken) (c .before .before .before .if2 .left) _ (c .before .before .extended .ensures) (c .before .if5 .taken)
 
 add-digits : tie.Need-add-digits Inv-loop μ-loop
 add-digits c = search needs
@@ -132,7 +132,7 @@ parse-spec =
     mul-numbers
     array-write-numbers
     add-count
-    onward-requires
+    extended-requires
     none-requires-4
     returns-4
     add-digits

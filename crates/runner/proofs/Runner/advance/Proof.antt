@@ -7,7 +7,7 @@ use mathlib.Core.Logic.{⊎-elim, inl}
 use Prim.Native.Nat.{_+_, _≤_, _<_, _^_}
 use native.Mathlib.Omega.{arith}
 use borrow.Author.Needs.{needs}
-use Rattle.marks.specs.Marks.{modeOf, numbersOf, hides}
+use Rattle.marks.specs.Marks.{modeOf, masksOf, hides}
 use Rattle.decode.proofs.Decoded.{Finds, half-finds, first-half-finds}
 use Rattle.machine.specs.Run.{valued, notice, spent, going, goesOn, settle, step, run}
 use Rattle.machine.proofs.Acts.{SixteenInputs}
@@ -21,7 +21,7 @@ use Rattle.runner.proofs.Runner.advance.Statement.{statement}
 use Rattle.runner.proofs.Runner.advance.Tie as tie
 
 abbrev Inv-loop : tie.InvT-loop
-Inv-loop m self₀ verdict limit mode numbers hidden todo₀ at₀ half₀ steps₀ end₀ value₀ named₀ self todo at half steps end value named =
+Inv-loop m self₀ verdict limit mode masks hidden todo₀ at₀ half₀ steps₀ end₀ value₀ named₀ self todo at half steps end value named =
     (run (flowIn self₀) todo₀ (going (runIn self₀)) ≡ run (flowIn self₀) todo (going (seen self at steps)))
     × (todo ≤ todo₀)
     × Stored self₀ self
@@ -32,12 +32,12 @@ Inv-loop m self₀ verdict limit mode numbers hidden todo₀ at₀ half₀ steps
     × (value ≡ 0)
     × (named ≡ 0)
     × (limit < 2 ^ 16)
-    × (numbers ≡ numbersOf mode)
+    × (masks ≡ masksOf mode)
     × Finds half at
     × SixteenInputs (self .marks)
 
 abbrev μ-loop : tie.MeasureT-loop
-μ-loop m self₀ verdict limit mode numbers hidden todo₀ at₀ half₀ steps₀ end₀ value₀ named₀ self todo at half steps end value named = todo
+μ-loop m self₀ verdict limit mode masks hidden todo₀ at₀ half₀ steps₀ end₀ value₀ named₀ self todo at half steps end value named = todo
 
 -- Where the arms of a box that does not end the run meet: it goes on in what was stored.
 meets : (c : tie.At-match-came Inv-loop μ-loop) → let at-loop = c .before .before .before .before .before .before .before .before .before in
@@ -122,8 +122,8 @@ cast-limit c = search needs
 mode-of-requires : tie.Need-mode-of-requires Inv-loop μ-loop
 mode-of-requires c κs = search needs
 
-numbers-of-requires : tie.Need-numbers-of-requires Inv-loop μ-loop
-numbers-of-requires c κs = search needs
+masks-of-requires : tie.Need-masks-of-requires Inv-loop μ-loop
+masks-of-requires c κs = search needs
 
 hides-requires : tie.Need-hides-requires Inv-loop μ-loop
 hides-requires c κs = search needs
@@ -153,7 +153,7 @@ loop-holds c =
       refl,
       refl,
       search needs,
-      c .before .before .before .numbers-of .ensures,
+      c .before .before .before .masks-of .ensures,
       first-half-finds _ _ (c .first-half .ensures),
       marks-sixteen (start .args .t1) (start .good .0),
     )
@@ -232,8 +232,8 @@ cast-self c =
     let below = ⊎-elim (λ w. w .1) (λ w. absurd (no-ending (w .0) (sym (w .1) ∙ c .before .if2 .taken))) (over (c .before .before) .0) in
     search needs
 
-kept-requires : tie.Need-kept-requires Inv-loop μ-loop
-kept-requires c κs = search needs
+disclose-requires : tie.Need-disclose-requires Inv-loop μ-loop
+disclose-requires c κs = search needs
 
 tell-requires : tie.Need-tell-requires Inv-loop μ-loop
 tell-requires c κs = search needs
@@ -265,7 +265,7 @@ advance-spec =
     check-advance-requires
     cast-limit
     mode-of-requires
-    numbers-of-requires
+    masks-of-requires
     hides-requires
     amount-requires
     first-half-requires
@@ -289,6 +289,6 @@ advance-spec =
     loop-less
     loop-again
     cast-self
-    kept-requires
+    disclose-requires
     tell-requires
     returns)

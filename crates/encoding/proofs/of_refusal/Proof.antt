@@ -1,8 +1,8 @@
 -- `of_refusal` has the numbers of a refusal.
-use Rattle.told.specs.Told.{encode}
+use Rattle.encoding.specs.Encoding.{encode}
 use borrow.Author.Needs.{needs}
-use Rattle.told.proofs.of_refusal.Statement.{statement}
-use Rattle.told.proofs.of_refusal.Tie as tie
+use Rattle.encoding.proofs.of_refusal.Statement.{statement}
+use Rattle.encoding.proofs.of_refusal.Tie as tie
 
 cast-make : tie.Need-cast-make
 cast-make c = search needs

@@ -1,12 +1,12 @@
--- `onward` makes the definition's three tests of a byte, one after the other.
+-- `extended` makes the definition's three tests of a byte, one after the other.
 use mathlib.Core.Path.{_≡_, sym, _∙_}
 use mathlib.Core.Bool.{true}
 use borrow.Author.Tests.{not-true, not-false}
 use Rattle.line.specs.Parsing.{isDigit}
 use Rattle.line.proofs.Scan.{digit-from, no-digit, after-zero, too-large, goes-on}
 use borrow.Author.Needs.{needs}
-use Rattle.line.proofs.parsing.onward.Statement.{statement}
-use Rattle.line.proofs.parsing.onward.Tie as tie
+use Rattle.line.proofs.parsing.extended.Statement.{statement}
+use Rattle.line.proofs.parsing.extended.Tie as tie
 
 digit : (c : tie.Else1) → isDigit (c .before .before .args .b) ≡ true
 digit c = sym (c .before .is-digit .ensures) ∙ not-false _ (c .if1 .left)
@@ -46,8 +46,8 @@ returns-4 c =
     let a = c .before .before .before .before .args in
     goes-on (a .value) (a .digits) (a .b) (digit (c .before .before)) (c .before .if2 .left) (c .if3 .left)
 
-pub onward-spec : {M : Type 1} → statement M
-onward-spec =
+pub extended-spec : {M : Type 1} → statement M
+extended-spec =
     tie.close
     (tie.spec
     is-digit-requires

@@ -2,8 +2,8 @@
 -- Assumes nothing.
 use Prim.Native.Nat.{_-_}
 use borrow.Author.Needs.{needs}
-use Rattle.test_second.proofs.kept.Statement.{statement}
-use Rattle.test_second.proofs.kept.Tie as tie
+use Rattle.test_second.proofs.padded.Statement.{statement}
+use Rattle.test_second.proofs.padded.Tie as tie
 
 abbrev Inv-loop : tie.InvT-loop
 Inv-loop file bytes₀ i₀ bytes i = Unit {0}
@@ -32,8 +32,8 @@ loop-again c = search needs
 returns : tie.Need-returns Inv-loop μ-loop
 returns c = search needs
 
-pub kept-spec : {M : Type 1} → statement M
-kept-spec =
+pub padded-spec : {M : Type 1} → statement M
+padded-spec =
     tie.close
     (tie.spec
     Inv-loop

@@ -1,9 +1,9 @@
 -- `of_answer` has the numbers of each of answer's endings.
 use Rattle.runner.specs.Replies.{answerReply}
-use Rattle.told.specs.Told.{endingNumbers, encode}
+use Rattle.encoding.specs.Encoding.{endingNumbers, encode}
 use borrow.Author.Needs.{needs}
-use Rattle.told.proofs.of_answer.Statement.{statement}
-use Rattle.told.proofs.of_answer.Tie as tie
+use Rattle.encoding.proofs.of_answer.Statement.{statement}
+use Rattle.encoding.proofs.of_answer.Tie as tie
 
 enum-known-told : tie.Need-enum-known-told
 enum-known-told c = search needs

@@ -11,7 +11,7 @@ use runner::LoadTold;
 ghost use mathlib.Core.Path.{_≡_};
 ghost use Rattle.runner.specs.Outcomes.{refused};
 ghost use Rattle.runner.specs.Replies.{loadReply, verdictReply, advanceReply, answerReply, writtenReply};
-ghost use Rattle.told.specs.Told.{numbers, encode, EncodesOnce};
+ghost use Rattle.encoding.specs.Encoding.{numbers, encode, EncodesOnce};
 
 // A kind, one of `kinds`, and its two values.
 pub struct Encoded {

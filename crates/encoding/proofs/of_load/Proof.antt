@@ -1,9 +1,9 @@
 -- `of_load` has the numbers of each of load's answers.
 use Rattle.runner.specs.Replies.{loadReply}
-use Rattle.told.specs.Told.{encode}
+use Rattle.encoding.specs.Encoding.{encode}
 use borrow.Author.Needs.{needs}
-use Rattle.told.proofs.of_load.Statement.{statement}
-use Rattle.told.proofs.of_load.Tie as tie
+use Rattle.encoding.proofs.of_load.Statement.{statement}
+use Rattle.encoding.proofs.of_load.Tie as tie
 
 enum-known-told : tie.Need-enum-known-told
 enum-known-told c = search needs

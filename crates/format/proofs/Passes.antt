@@ -27,7 +27,7 @@ pub record Letters (f : List ℕ) : Type 0 where
   pub f2 : at f 2 ≡ 79
   pub f3 : at f 3 ≡ 87
 
-pub record Accepted (f : List ℕ) (h : Header) : Type 0 where
+pub record Passes (f : List ℕ) (h : Header) : Type 0 where
   pub header : h ≡ headerOf f
   pub sized : lengthRule (length f) ≡ true
   pub long : length f ≡ 512 * blocksFor (h .boxes)
@@ -85,9 +85,9 @@ letters-of f e =
       r .1 .1 .1 .1 .0,
     )
 
-pub accepted : (f : List ℕ) (h : Header) → checkFile f ≡ checked.Accepted h → Accepted f h
+pub passes : (f : List ℕ) (h : Header) → checkFile f ≡ checked.Accepted h → Passes f h
 unfolding checkFile headerRule
-accepted f h e =
+passes f h e =
     let blocks = blocksOf f in
     let places = 51 * (blocks - 1) in
     let wrong = firstFailing (checkRule f (headerOf f)) blocks in

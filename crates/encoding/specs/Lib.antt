@@ -1,2 +1,2 @@
 -- What a call tells as numbers.
-pub mod Told
+pub mod Encoding

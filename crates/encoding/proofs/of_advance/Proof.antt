@@ -1,9 +1,9 @@
 -- `of_advance` has the numbers of each of advance's answers.
 use Rattle.runner.specs.Replies.{advanceReply}
-use Rattle.told.specs.Told.{encode}
+use Rattle.encoding.specs.Encoding.{encode}
 use borrow.Author.Needs.{needs}
-use Rattle.told.proofs.of_advance.Statement.{statement}
-use Rattle.told.proofs.of_advance.Tie as tie
+use Rattle.encoding.proofs.of_advance.Statement.{statement}
+use Rattle.encoding.proofs.of_advance.Tie as tie
 
 enum-known-told : tie.Need-enum-known-told
 enum-known-told c = search needs

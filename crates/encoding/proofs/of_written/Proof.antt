@@ -1,9 +1,9 @@
 -- `of_written` has the numbers of each answer of write back and of the converter.
 use Rattle.runner.specs.Replies.{writtenReply}
-use Rattle.told.specs.Told.{encode}
+use Rattle.encoding.specs.Encoding.{encode}
 use borrow.Author.Needs.{needs}
-use Rattle.told.proofs.of_written.Statement.{statement}
-use Rattle.told.proofs.of_written.Tie as tie
+use Rattle.encoding.proofs.of_written.Statement.{statement}
+use Rattle.encoding.proofs.of_written.Tie as tie
 
 enum-known-told : tie.Need-enum-known-told
 enum-known-told c = search needs

@@ -1,9 +1,9 @@
 -- `of_verdict` has the numbers of each of a verdict.
 use Rattle.runner.specs.Replies.{verdictReply}
-use Rattle.told.specs.Told.{encode}
+use Rattle.encoding.specs.Encoding.{encode}
 use borrow.Author.Needs.{needs}
-use Rattle.told.proofs.of_verdict.Statement.{statement}
-use Rattle.told.proofs.of_verdict.Tie as tie
+use Rattle.encoding.proofs.of_verdict.Statement.{statement}
+use Rattle.encoding.proofs.of_verdict.Tie as tie
 
 enum-told : tie.Need-enum-told
 enum-told c = search needs

@@ -4,8 +4,8 @@ use mathlib.Core.Bool.{cond}
 use lib.Dec.{eqb}
 use Rattle.machine.specs.Run.{valued, notice, spent}
 use Rattle.runner.specs.Outcomes.{Reply, done, chart, running, ended, ending, wrote, refused}
-use Rattle.told.specs.Told.{endingNumbers, encode, EncodesOnce}
-use Rattle.told.specs.declared.Encoded.{Encoded}
+use Rattle.encoding.specs.Encoding.{endingNumbers, encode, EncodesOnce}
+use Rattle.encoding.specs.declared.Encoded.{Encoded}
 
 decode : Encoded → Reply
 decode t =

@@ -1,10 +1,10 @@
 -- Each number is what `by_mode` picks, so the struct is that of the mode.
 use borrow.Author.Needs.{needs}
-use Rattle.marks.proofs.numbers_of.Statement.{statement}
-use Rattle.marks.proofs.numbers_of.Tie as tie
+use Rattle.marks.proofs.masks_of.Statement.{statement}
+use Rattle.marks.proofs.masks_of.Tie as tie
 
-pub numbers-of-spec : {M : Type 1} → statement M
-numbers-of-spec =
+pub masks-of-spec : {M : Type 1} → statement M
+masks-of-spec =
     tie.close
     (tie.spec
     (λ c κs. search needs)
