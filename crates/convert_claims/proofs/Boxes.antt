@@ -18,7 +18,7 @@ use Rattle.chart_claims.proofs.Rules.{formed-says}
 use Rattle.convert.specs.Convert.{otherThan, isOperation, takes}
 use Rattle.decode.specs.Decode.{littleEndian, decode, assigns, meaning}
 use Rattle.decode.specs.declared.FlowBox.the-variants.{Assign, Decide, Halt, Choose}
-use Rattle.claims.proofs.Editions.{others-alike, boxes-alike}
+use Rattle.run_claims.proofs.Editions.{others-alike, boxes-alike}
 use Rattle.convert_claims.specs.Conversions.{Untaken, operation, kind, KindsOfBoxes}
 
 -- The two editions, in one order or the other.

@@ -25,17 +25,17 @@ use Rattle.convert.specs.Convert.{otherThan, inOther}
 use Rattle.decode.specs.Decode.{Box, decode, meaning, flow}
 use Rattle.decode.proofs.Decoded.{box-here, box-past}
 use Rattle.marks.specs.Marks.{modeOf}
-use Rattle.machine.specs.Run.{Progress, going, over, run, disclosed}
+use Rattle.machine.specs.Run.{Progress, going, over, run}
+use Rattle.runs.specs.Whole.{disclosed, whole}
 use Rattle.calls.specs.Calls.{Call, load, begin, advance, answer, abandon, writeBack, rewrite, check}
 use Rattle.calls.specs.declared.Verdict.{Verdict}
 use Rattle.calls.specs.declared.Verdict.the-variants.{Done, Refused}
 use Rattle.calls.proofs.Permits.{rewrites-second}
 use Rattle.runner.specs.declared.Runner.{Runner}
-use Rattle.runner.specs.State.{runIn, standingOf, runnerOf, idle, endedWith, dropped, flowIn, ran, resumed}
-use Rattle.runner.specs.Whole.{finish, whole, startOf}
+use Rattle.runner.specs.State.{flowchartOf, runIn, standingOf, runnerOf, idle, endedWith, dropped, flowIn, ran, resumed}
 use Rattle.runner.specs.Outcomes.{chart, Told, Outcome, says, after, outcomeBy, call}
-use Rattle.claims.specs.Lists.{Accepted, tells, Along}
-use Rattle.claims.proofs.ChartLaws.{load-does, loads-file}
+use Rattle.call_claims.specs.Lists.{Accepted, tells, Along}
+use Rattle.call_claims.proofs.ChartLaws.{load-does, loads-file}
 use Rattle.convert_claims.specs.Conversions.{TellsNoEdition, EndsAlike, TellsAlike}
 use Rattle.convert_claims.proofs.Boxes.{other-is, meant-alike}
 use Rattle.convert_claims.proofs.Files.{AllTaken, made, made-header, made-table, made-accepted}
@@ -66,20 +66,19 @@ module _ (f : List ℕ) (h : Header) (e : checkFile f ≡ checked.Accepted h) (a
       on p false q = rw (box-here (tableOf f) p (leb-false 204 p q)) (does-alike p (leb-false 204 p q))
 
 pub ends-alike : EndsAlike
-unfolding whole
 ends-alike f g c mode inputs allowed limit =
     let m = made f g c in
     let h = headerOf f in
-    ap (λ (k : Header). whole k (tableOf g) mode inputs allowed limit) (made-header f g m)
-    ∙ ap (λ (t : List ℕ). whole (inOther h) t mode inputs allowed limit) (made-table f g m)
-    ∙ ap (λ (fl : ℕ → Box). finish (disclosed (modeOf mode) (run fl limit (going (startOf mode inputs allowed limit h))))) (one-flow f h (m .checks) (m .all))
+    ap (λ (k : Header). whole (flowchartOf (record { header = k; table = tableOf g })) mode inputs allowed limit) (made-header f g m)
+    ∙ ap (λ (t : List ℕ). whole (flowchartOf (record { header = inOther h; table = t })) mode inputs allowed limit) (made-table f g m)
+    ∙ ap (λ (fl : ℕ → Box). whole (record { flow = fl; inputs = h .inputs; first = h .first }) mode inputs allowed limit) (one-flow f h (m .checks) (m .all))
 
 -- The runner with its chart said to be of another edition.
 abbrev recast : ℕ → Runner → Runner
 recast edition r =
     runnerOf
     (record { header = record { edition = edition; inputs = r .header .inputs; boxes = r .header .boxes; first = r .header .first }; table = r .table })
-    (runIn r) (r .state) (r .total) (r .value) (r .named)
+    (r .mode) (runIn r) (r .state) (r .total) (r .value) (r .named)
 
 -- Two runners that differ in nothing, or in the edition alone where that changes nothing of what
 -- the boxes do.

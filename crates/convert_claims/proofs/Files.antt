@@ -27,9 +27,8 @@ use Rattle.chart_claims.proofs.Rules.{obeys-rules}
 use Rattle.chart_claims.proofs.Ruled.{ruled-is-loaded}
 use Rattle.convert.specs.Convert.{otherThan, inOther, takesBox, checkChart, checkAfter, Conversion, conversion, conversionBy, convert}
 use Rattle.convert.proofs.Answers.{untaken, tells-untaken, tells-room, tells-header, chart-accepted, after-chart, after-refused, after-accepted}
-use Rattle.convert_claims.specs.Conversions.{ConvertsTo, ConvertsToOther, ConvertsIntoAny, ConvertsBack}
-use Rattle.convert_claims.specs.Conversions.{Untaken, FirstUntaken, RefusesFirstUntaken, RefusedAsLoaded, RefusalLeavesBuffer}
-use Rattle.claims.proofs.Branches.{clash}
+use Rattle.convert_claims.specs.Conversions.{ConvertsTo, ConvertsToOther, ConvertsIntoAny, ConvertsBack, Untaken, FirstUntaken, RefusesFirstUntaken, RefusedAsLoaded, RefusalLeavesBuffer}
+use Rattle.run_claims.proofs.Branches.{clash}
 use Rattle.convert_claims.proofs.Boxes.{other-is, other-again, formed-alike, taken-back, untaken-fails, fails-untaken}
 
 -- The other edition takes all boxes of a chart.

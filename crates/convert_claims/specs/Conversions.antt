@@ -11,15 +11,16 @@ use Rattle.format.specs.File.{headerOf, isEdition, refusal, checkFile}
 use Rattle.format.specs.declared.Header.{Header}
 use Rattle.format.specs.declared.Refusal.{Refusal}
 use Rattle.format.specs.declared.Checked.the-variants as checked
-use Rattle.chart.specs.Chart.{tableOf}
+use Rattle.chart.specs.Chart.{tableOf, chartOf}
 use Rattle.chart.specs.declared.Written.the-variants.{Length, Refused}
 use Rattle.convert.specs.Convert.{conversion, convert}
+use Rattle.marks.specs.Marks.{Mode}
 use Rattle.calls.specs.Calls.{Call, load, begin, advance, answer, abandon, writeBack, rewrite}
 use Rattle.runner.specs.declared.Runner.{Runner}
-use Rattle.runner.specs.State.{isRunning}
-use Rattle.runner.specs.Whole.{whole}
+use Rattle.runner.specs.State.{isRunning, flowchartOf}
+use Rattle.runs.specs.Whole.{whole}
 use Rattle.runner.specs.Outcomes.{call}
-use Rattle.claims.specs.Lists.{Accepted, tells, Along}
+use Rattle.call_claims.specs.Lists.{Accepted, tells, Along}
 
 -- A file converts to another: given some buffer, the converter tells the other's length and leaves
 -- it at the buffer's front.
@@ -61,8 +62,8 @@ abbrev pub EndsAlikeWhere : ((f g : List ℕ) → Type 0) → Type 0
 EndsAlikeWhere Related =
     (f g : List ℕ)
     → Related f g
-    → (mode : ℕ) (inputs : List ℕ) (allowed limit : ℕ)
-    → whole (headerOf g) (tableOf g) mode inputs allowed limit ≡ whole (headerOf f) (tableOf f) mode inputs allowed limit
+    → (mode : Mode) (inputs : List ℕ) (allowed limit : ℕ)
+    → whole (flowchartOf (chartOf g)) mode inputs allowed limit ≡ whole (flowchartOf (chartOf f)) mode inputs allowed limit
 
 -- "For every mode, input, allowed set and limit the converted chart must end as the original does".
 abbrev pub EndsAlike : Type 0

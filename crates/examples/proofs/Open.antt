@@ -14,16 +14,15 @@ use Rattle.operations.specs.Operation.{readBy, valueOfLeft, sum, difference, qu
 use Rattle.marks.specs.Marks.{modeOf, union}
 use Rattle.decode.specs.Decode.{decode, boxFrom, meaning}
 use Rattle.machine.specs.Act.{actBy}
-use Rattle.machine.specs.Run.{goesOn, settle, onward, run, disclosed}
+use Rattle.machine.specs.Run.{goesOn, settle, onward, run}
+use Rattle.runs.specs.Whole.{disclosed, finish, whole}
 use Rattle.begin.specs.Begin.{effective, firstVars, withheldMark, withheldMarks, firstMarks}
 use Rattle.calls.specs.Calls.{fileVerdict, check}
 use Rattle.runner.specs.State.{newRunner, endedWith, dropped, resumed}
-use Rattle.runner.specs.Whole.{finish, whole}
 use Rattle.runner.specs.Outcomes.{after, progressReply, says, outcomeBy, call}
-use Rattle.claims.specs.Lists.{tells, final}
+use Rattle.call_claims.specs.Lists.{tells, final}
 use Rattle.rewrite_claims.specs.Rewriting.{boxesRun}
-use Rattle.examples.specs.Charts.{chartA, chartB, chartC, chartD, headE, boxesE, chartE, boxesETwo, chartPair, chartChain, chartTwice, chartSum}
-use Rattle.examples.specs.Charts.{sumOne, sumTwo, differenceOne, differenceTwo, zerosOne, zerosTwo, fiveBlocks}
+use Rattle.examples.specs.Charts.{chartA, chartB, chartC, chartD, headE, boxesE, chartE, boxesETwo, chartPair, chartChain, chartTwice, chartSum, sumOne, sumTwo, differenceOne, differenceTwo, zerosOne, zerosTwo, fiveBlocks}
 use Rattle.examples.specs.Rewriting.{chartChoice, chartFork, chartForkNew, chartTurns, chartNever}
 
 unfoldable pub rules-open : Unit {0}

@@ -15,21 +15,19 @@ use Rattle.calls.specs.Calls.{load, begin, advance, answer, writeBack, rewrite}
 use Rattle.calls.proofs.Permits.{not-done}
 use Rattle.runner.specs.declared.Runner.{Runner}
 use Rattle.runner.specs.State.{newRunner}
-use Rattle.runner.specs.Whole.{Finish, finish}
-use Rattle.runner.specs.Whole as runs
+use Rattle.runs.specs.Whole.{Finish, finish}
+use Rattle.marks.specs.Marks.{bare}
+use Rattle.runs.specs.Whole as runs
 use Rattle.runner.specs.Outcomes.{done, chart, running, ended, ending, refused, Reply, Told, Outcome}
-use Rattle.claims.specs.Lists.{fresh, then, begun, asked}
-use Rattle.claims.specs.Demand3.{SameLimit}
-use Rattle.claims.proofs.Branches.{clash}
+use Rattle.call_claims.specs.Lists.{fresh, then, begun, asked}
+use Rattle.call_claims.specs.Parameters.{SameLimit}
+use Rattle.run_claims.proofs.Branches.{clash}
 use Rattle.convert_claims.specs.Conversions.{OtherEdition}
 use Rattle.examples.specs.Charts.{block, front, halt, chartA, chartB, chartC, chartD, chartE, sumOne, sumTwo}
 use Rattle.examples.specs.Conversions.{chartATwo}
 use Rattle.examples.specs.Rewriting.{chartChoice, chartFork, chartNever}
-use Rattle.examples.specs.Refuted.{BareIsNotSecret, AnotherModeIsTold, AnotherLimitIsTold, BareAnswersMore, SmallerLimitAnswersLess}
-use Rattle.examples.specs.Refuted.{OneMore, OneLess, AdvancesPartAtTheEnd, NoLoadDuringARun, AnotherLoadIsTold}
-use Rattle.examples.specs.Refuted.{HighWaterNamesNone, SurveillanceNamesSome, HighWaterAdvancesPart, HighWaterSumEndsNothing, HighWaterCountsNoBoxes, SurveillanceTellsCounts}
+use Rattle.examples.specs.Refuted.{BareIsNotSecret, AnotherModeIsTold, AnotherLimitIsTold, BareAnswersMore, SmallerLimitAnswersLess, OneMore, OneLess, AdvancesPartAtTheEnd, NoLoadDuringARun, AnotherLoadIsTold, HighWaterNamesNone, SurveillanceNamesSome, HighWaterAdvancesPart, HighWaterSumEndsNothing, HighWaterCountsNoBoxes, SurveillanceTellsCounts, WrittenBackIsTold, EditionsEndApart, RewritingIsTold, RewritingBetweenIsTold, GuardedMayLose, DrawnDoNotCount}
 use Rattle.examples.specs.Witnesses.{justLoaded}
-use Rattle.examples.specs.Refuted.{WrittenBackIsTold, EditionsEndApart, RewritingIsTold, RewritingBetweenIsTold, GuardedMayLose, DrawnDoNotCount}
 use Rattle.examples.proofs.Open.{conversions-open, runs-open, rewritings-open}
 use Rattle.examples.proofs.Witnesses.{on-one-file, one-withheld, answered, conversion-is-met}
 
@@ -228,5 +226,5 @@ unfolding runs-open finish runs.whole valueOfEnding
 editions-end-apart claim =
     let related : OtherEdition sumOne sumTwo =
     record { accepted = refl; accepted′ = refl; editions = inl (refl, refl); inputs = refl; boxes = refl; first = refl; table = refl } in
-    let e : _≡_ {A = ℕ} 4294967295 0 = ap (λ (x : Finish). valueOfEnding (x .ending)) (claim sumOne sumTwo related 0 (4294967295 ∷ 1 ∷ []) 0 2) in
+    let e : _≡_ {A = ℕ} 4294967295 0 = ap (λ (x : Finish). valueOfEnding (x .ending)) (claim sumOne sumTwo related bare (4294967295 ∷ 1 ∷ []) 0 2) in
     omega arith

@@ -11,17 +11,15 @@ use Rattle.calls.proofs.Permits.{not-done}
 use Rattle.runner.specs.declared.Runner.{Runner}
 use Rattle.runner.specs.State.{newRunner}
 use Rattle.runner.specs.Outcomes.{call}
-use Rattle.claims.specs.Lists.{fresh, then, Accepted, begun, tells}
-use Rattle.claims.specs.Demand3.{AllowedAlike, Begins, SameLimit, tellsValue, SomeAnswer}
-use Rattle.claims.specs.OneFile.{afterLoad, NoOtherChart}
-use Rattle.claims.proofs.OneFile.{reached-final, one-file-held}
-use Rattle.claims.proofs.Inputs.{none-has}
+use Rattle.call_claims.specs.Lists.{fresh, then, Accepted, begun, tells}
+use Rattle.run_claims.specs.Secrecy.{AllowedAlike}
+use Rattle.call_claims.specs.Demand3.{tellsValue, SomeAnswer}
+use Rattle.call_claims.specs.Parameters.{Begins, SameLimit}
+use Rattle.call_claims.specs.OneFile.{afterLoad, NoOtherChart}
+use Rattle.call_claims.proofs.OneFile.{reached-final, one-file-held}
+use Rattle.run_claims.proofs.Inputs.{none-has}
 use Rattle.examples.specs.Charts.{chartA, chartB, chartE, zerosTwo}
-use Rattle.examples.specs.Witnesses.{justLoaded, runBare, loadedAndRun, BegunAlike}
-use Rattle.examples.specs.Witnesses.{SecrecyIsMet, NoticeIsTold, SecondEditionIsMet}
-use Rattle.examples.specs.Witnesses.{ChoiceIsMet, CountsAreHidden}
-use Rattle.examples.specs.Witnesses.{AdvancesAreWhole, AnsweringIsMet}
-use Rattle.examples.specs.Witnesses.{ConversionIsMet, RewritingIsMet, RewritingInOrder}
+use Rattle.examples.specs.Witnesses.{justLoaded, runBare, loadedAndRun, BegunAlike, SecrecyIsMet, NoticeIsTold, SecondEditionIsMet, ChoiceIsMet, CountsAreHidden, AdvancesAreWhole, AnsweringIsMet, ConversionIsMet, RewritingIsMet, RewritingInOrder}
 use Rattle.examples.specs.Conversions.{chartATwo}
 use Rattle.examples.specs.Rewriting.{chartChoice, chartFork, chartTurns}
 use Rattle.examples.proofs.Open.{conversions-open, runs-open, rewritings-open}

@@ -18,7 +18,7 @@ use Rattle.begin.specs.Begin.{effective}
 use Rattle.calls.specs.Calls.{load, begin, advance, answer, writeBack, rewrite}
 use Rattle.runner.specs.State.{newRunner}
 use Rattle.runner.specs.Outcomes.{Reply, done, chart, ended, ending, wrote, Told}
-use Rattle.claims.specs.Lists.{tells}
+use Rattle.call_claims.specs.Lists.{tells}
 
 -- A file and the answer of load's input checks; a file that is loaded and written back to itself,
 -- or rewritten between and written back to another; a file and a buffer, what the converter tells

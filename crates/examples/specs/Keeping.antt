@@ -2,8 +2,7 @@
 -- sets read, the old set, the sets read, and the new set, all of 16 inputs.
 use Prim.Native.Nat.{ℕ}
 use mathlib.Core.List.{List, [], _∷_}
-use Rattle.marks.specs.Marks.{masksOf}
-use Rattle.marks.specs.declared.Mode.the-variants.{Bare, Surveillance, HighWater}
+use Rattle.marks.specs.Marks.{bare, surveillance, highWater, masksOf}
 use Rattle.examples.specs.Cases.{Case, sets, Table}
 
 -- All is taken of the sets read.
@@ -23,9 +22,9 @@ keepingCases =
     ∷ keeps 0 65535 (1 ∷ 1 ∷ 32768 ∷ []) 32769
     ∷ keeps 65535 32769 (32769 ∷ []) 32769
     -- the old set is inputs 0 and 2, and the sets read are of 1 and of 3, in each mode
-    ∷ sets (masksOf Bare) 5 (2 ∷ 8 ∷ []) 5
-    ∷ sets (masksOf Surveillance) 5 (2 ∷ 8 ∷ []) 10
-    ∷ sets (masksOf HighWater) 5 (2 ∷ 8 ∷ []) 15
+    ∷ sets (masksOf bare) 5 (2 ∷ 8 ∷ []) 5
+    ∷ sets (masksOf surveillance) 5 (2 ∷ 8 ∷ []) 10
+    ∷ sets (masksOf highWater) 5 (2 ∷ 8 ∷ []) 15
     ∷ []
 
 abbrev pub KeepingCases : Type 0

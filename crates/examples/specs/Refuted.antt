@@ -7,19 +7,20 @@ use mathlib.Core.Bool.{true, false}
 use lib.Dec.{eqb}
 use Rattle.boxes.specs.Bytes.{at, boxOf}
 use Rattle.rewrite.specs.Rewrite.{replacedAt}
+use Rattle.marks.specs.Marks.{bare, surveillance, highWater}
 use Rattle.begin.specs.Begin.{effective}
 use Rattle.calls.specs.Calls.{load, rewrite}
 use Rattle.runner.specs.State.{isRunning}
 use Rattle.runner.specs.Outcomes.{call}
 use Rattle.rewrite_claims.specs.Rewriting.{FewerStepsBy}
 use Rattle.convert_claims.specs.Conversions.{OtherEdition, EndsAlikeWhere, TellsAlikeWhere}
-use Rattle.claims.specs.Lists.{Accepted, Along}
-use Rattle.claims.specs.Demand3.{SameLimit, Secrecy, AnswersAs}
-use Rattle.claims.specs.Runs.{AdvancesJoinWhere, NotEndedAfter, NotHighWater, CountsBoxesWhere, LimitEndsWhere}
-use Rattle.claims.specs.Charts.{AllKeepChart, WrittenLoadsWhere}
-use Rattle.claims.specs.OneFile.{OneFileWhere}
-use Rattle.claims.specs.Sets.{NoticesName, NamesNoneWhere}
-use Rattle.claims.specs.HighWater.{CountsValuesOnlyIn}
+use Rattle.call_claims.specs.Lists.{Accepted, Along}
+use Rattle.call_claims.specs.Parameters.{SameLimit, Secrecy, AnswersAs}
+use Rattle.call_claims.specs.Runs.{AdvancesJoinWhere, NotEndedAfter, NotHighWater, CountsBoxesWhere, LimitEndsWhere}
+use Rattle.call_claims.specs.Charts.{AllKeepChart, WrittenLoadsWhere}
+use Rattle.call_claims.specs.OneFile.{OneFileWhere}
+use Rattle.call_claims.specs.Sets.{NoticesName, NamesNoneWhere}
+use Rattle.call_claims.specs.HighWater.{CountsValuesOnlyIn}
 
 -- Bare guards nothing: in chart B, 3 steps for input 0 and 4 for input 4.
 abbrev pub BareIsNotSecret : Type 0
@@ -103,11 +104,11 @@ RewritingBetweenIsTold =
 -- 02, g, speaks of "the bare old chart": in the other modes a copy that is not made is read by the
 -- box put in, so that a value becomes a notice.
 abbrev pub GuardedMayLose : Type 0
-GuardedMayLose = (FewerStepsBy 1 (λ old new. replacedAt old) → ⊥) × (FewerStepsBy 2 (λ old new. replacedAt old) → ⊥)
+GuardedMayLose = (FewerStepsBy surveillance (λ old new. replacedAt old) → ⊥) × (FewerStepsBy highWater (λ old new. replacedAt old) → ⊥)
 
 -- "kind 4 boxes put in by the rewriter": one that was drawn is run as often on the old chart.
 abbrev pub DrawnDoNotCount : Type 0
-DrawnDoNotCount = FewerStepsBy 0 (λ old new p. eqb (at (boxOf new p) 0) 4) → ⊥
+DrawnDoNotCount = FewerStepsBy bare (λ old new p. eqb (at (boxOf new p) 0) 4) → ⊥
 
 -- "high-water notices, carry 0": chart D's names no input, and under surveillance it names one.
 abbrev pub HighWaterNamesNone : Type 0

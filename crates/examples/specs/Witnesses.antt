@@ -8,16 +8,19 @@ use mathlib.Core.Bool.{false}
 use Rattle.chart.specs.Chart.{tableOf}
 use Rattle.rewrite.specs.Rewrite.{replacedAt}
 use Rattle.decode.specs.Decode.{flow}
+use Rattle.marks.specs.Marks.{bare}
 use Rattle.machine.specs.Run.{valued, notice, going, over, run}
 use Rattle.begin.specs.Begin.{limitForNone, effective}
 use Rattle.calls.specs.Calls.{Call, load, begin, advance, answer, abandon, writeBack, rewrite}
 use Rattle.runner.specs.declared.Runner.{Runner}
-use Rattle.runner.specs.State.{isRunning, newRunner, runIn, flowIn}
-use Rattle.runner.specs.Whole.{startOf, whole}
+use Rattle.runner.specs.State.{isRunning, newRunner, runIn, flowchartIn, flowIn}
+use Rattle.runs.specs.Whole.{startOf, whole}
 use Rattle.runner.specs.Outcomes.{Reply, done, chart, running, ended, ending, refused, call}
-use Rattle.claims.specs.Lists.{Reached, Accepted, begun, tells, Along, AllContinue}
-use Rattle.claims.specs.Demand3.{AllowedAlike, Begins, SameLimit, SomeAnswer}
-use Rattle.claims.specs.OneFile.{afterLoad}
+use Rattle.call_claims.specs.Lists.{Reached, Accepted, begun, tells, Along, AllContinue}
+use Rattle.run_claims.specs.Secrecy.{AllowedAlike}
+use Rattle.call_claims.specs.Demand3.{SomeAnswer}
+use Rattle.call_claims.specs.Parameters.{Begins, SameLimit}
+use Rattle.call_claims.specs.OneFile.{afterLoad}
 use Rattle.examples.specs.Charts.{chartA, chartB, chartE, zerosTwo}
 use Rattle.convert_claims.specs.Conversions.{ConvertsTo, TellsNoEdition}
 use Rattle.rewrite_claims.specs.Rewriting.{boxesRun}
@@ -173,9 +176,9 @@ Saves file inputs limit v steps saved =
     let new = call rewrite old .next in
     Reached old
     × Accepted rewrite old
-    × (whole (old .header) (old .table) 0 inputs 0 limit ≡ record { ending = valued v; steps = steps })
-    × (boxesRun (flowIn new) (replacedAt (old .table)) limit (going (startOf 0 inputs 0 limit (new .header))) ≡ saved)
-    × (whole (new .header) (new .table) 0 inputs 0 limit ≡ record { ending = valued v; steps = steps - saved })
+    × (whole (flowchartIn old) bare inputs 0 limit ≡ record { ending = valued v; steps = steps })
+    × (boxesRun (flowIn new) (replacedAt (old .table)) limit (going (startOf (flowchartIn new) bare inputs 0 limit)) ≡ saved)
+    × (whole (flowchartIn new) bare inputs 0 limit ≡ record { ending = valued v; steps = steps - saved })
 
 abbrev pub RewritingIsMet : Type 0
 RewritingIsMet = Saves chartFork (7 ∷ []) 4 1 4 1 × Saves chartTurns (1 ∷ []) limitForNone 1 10 2

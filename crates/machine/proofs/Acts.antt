@@ -1,6 +1,6 @@
 -- The act of a box, by its kind and what the code computed of it, however a mark is set; and that
--- by the numbers of the mode this is the act by the rules, where the marks are of 16 inputs
--- (`act-by-numbers`). Assumes nothing.
+-- by the masks of the mode this is the act by the rules, where the marks are of 16 inputs
+-- (`act-by-masks`). Assumes nothing.
 use Prim.Native.Nat.{ℕ, zero, suc, _%_, _^_, _<_}
 use mathlib.Core.Path.{_≡_, refl, ap, sym, _∙_}
 use mathlib.Core.List.{List, [], _∷_}
@@ -11,8 +11,7 @@ use lib.ListN.{getD, set}
 use borrow.Author.Tests.{eq-eqb, ne-eqb}
 use Rattle.operations.specs.Operation.{readBy, valueOf, compares, chosen}
 use Rattle.operations.proofs.ReadLaws.{read-map}
-use Rattle.marks.specs.Marks.{marked, union, masksOf, setBy, decisionNotice, counterMark, haltNotice, namedBy}
-use Rattle.marks.specs.declared.Mode.{Mode}
+use Rattle.marks.specs.Marks.{Mode, marked, union, masksOf, setBy, decisionNotice, counterMark, haltNotice, namedBy}
 use Rattle.marks.specs.declared.Masks.{Masks}
 use Rattle.marks.proofs.MarkLaws.{set-by-mode, set-sixteen}
 use Rattle.decode.specs.Decode.{Box, assigns, decides, halts, meaning}
@@ -23,7 +22,7 @@ use Rattle.machine.specs.declared.Act.{Act}
 use Rattle.machine.specs.declared.Act.the-variants.{Store, Go, Value, Notice}
 use Rattle.machine.specs.declared.Marked.{Marked}
 
--- What is stored where a mark was set by the numbers, of the mark that the target has.
+-- What is stored where a mark was set by the masks, of the mark that the target has.
 pub stores : (masks : Masks) (t v m next old before read : ℕ) → before ≡ old → m ≡ setBy masks before read
     → Store t v m next ≡ Store t v (setBy masks old read) next
 stores masks t v m next old before read o e = ap (λ (x : ℕ). Store t v x next) (e ∙ ap (λ (x : ℕ). setBy masks x read) o)
@@ -44,7 +43,7 @@ sixteen-set (x ∷ marks) zero m s l (suc v) = s (suc v)
 sixteen-set (x ∷ marks) (suc i) m s l zero = s 0
 sixteen-set (x ∷ marks) (suc i) m s l (suc v) = sixteen-set marks i m (λ w. s (suc w)) l v
 
--- By the numbers of the mode a box does what it does by the rules.
+-- By the masks of the mode a box does what it does by the rules.
 module _ (mode : Mode) (marks : List ℕ) (s : SixteenInputs marks) where
   pub act-by-masks : (b : Box) (vars : List ℕ) (counter : ℕ) → actBy (setBy (masksOf mode)) mode b vars marks counter ≡ act mode b vars marks counter
   unfolding actBy
@@ -53,7 +52,7 @@ module _ (mode : Mode) (marks : List ℕ) (s : SixteenInputs marks) where
   act-by-masks (decides reads holds next other) vars counter = refl
   act-by-masks halts vars counter = refl
 
--- A mark that a box stores by the numbers of the mode is of 16 inputs again.
+-- A mark that a box stores by the masks of the mode is of 16 inputs again.
 abbrev pub StoresSixteen : Act → Type 0
 StoresSixteen (Store t v m next) = m < 2 ^ 16
 StoresSixteen (Go next counter) = Unit {0}

@@ -1,21 +1,31 @@
--- Laws of `run`: boxes add up, what is over stays as it is, how a loop that counts down takes the
--- first box and ends. What holds where a box goes on, or ends the run with a notice or spent, holds
--- of what it comes to; what each box keeps, boxes keep, the mode and the limit among it. And laws
--- of `kept`. Assumes nothing.
+-- Laws of `run`: a relation of two runs that a box keeps, any number of boxes keep (`lift`), and so
+-- what holds of one run; boxes add up, what is over stays as it is, how a loop that counts down
+-- takes the first box and ends. What holds where a box goes on, or ends the run with a notice or
+-- spent, holds of what it comes to; and a run keeps its mode and its limit. Assumes nothing.
 use Prim.Native.Nat.{ℕ, zero, suc, _+_, _-_, _<_, _≤_}
 use mathlib.Core.Path.{_≡_, refl, ap, sym, _∙_}
-use mathlib.Core.Bool.{Bool, true, false, cond, true≢false}
+use mathlib.Core.Bool.{Bool, true, false, cond}
 use native.Mathlib.Nat.{suc-add, zero-add}
+use native.Mathlib.Numerals.{add-one}
 use native.Mathlib.Omega.{arith}
 use lib.Dec.{leb}
-use borrow.Author.Tests.{leb-false}
+use borrow.Author.Tests.{le-leb, lt-leb, leb-false}
 use Rattle.decode.specs.Decode.{Box}
-use Rattle.marks.specs.Marks.{marked, namedBy, hides}
-use Rattle.marks.specs.declared.Mode.{Mode}
+use Rattle.marks.specs.Marks.{Mode, marked, namedBy}
 use Rattle.machine.specs.Act.{noticeOr}
-use Rattle.machine.specs.Run.{Run, Ending, valued, notice, spent, Progress, going, over, goesOn, settle, step, onward, run, disclosed}
+use Rattle.machine.specs.Run.{Run, Ending, notice, spent, Progress, going, over, goesOn, settle, step, onward, run}
 use Rattle.machine.specs.declared.Act.{Act}
 use Rattle.machine.specs.declared.Act.the-variants.{Store, Go, Value, Notice}
+
+-- A relation of two runs, by how many boxes of each have been run: what one box of both keeps, n
+-- boxes keep.
+pub lift : (f f′ : ℕ → Box) (Related : ℕ → Progress → Progress → Type 0)
+    → ((k : ℕ) (p p′ : Progress) → Related k p p′ → Related (suc k) (onward f p) (onward f′ p′))
+    → (n : ℕ) (p p′ : Progress) → Related 0 p p′ → Related n (run f n p) (run f′ n p′)
+unfolding run
+lift f f′ Related one zero p p′ h = h
+lift f f′ Related one (suc n) p p′ h =
+    lift f f′ (λ k. Related (suc k)) (λ k. one (suc k)) n (onward f p) (onward f′ p′) (one 0 p p′ h)
 
 module _ (flow : ℕ → Box) where
   pub run-add : (m n : ℕ) (p : Progress) → run flow (m + n) p ≡ run flow n (run flow m p)
@@ -23,10 +33,24 @@ module _ (flow : ℕ → Box) where
   run-add zero n p = rw zero-add
   run-add (suc m) n p = rw suc-add (run-add m n (onward flow p))
 
+  pub run-last : (n : ℕ) (p : Progress) → run flow (suc n) p ≡ onward flow (run flow n p)
+  unfolding run
+  run-last n p = ap (λ (k : ℕ). run flow k p) (sym (add-one n)) ∙ run-add n 1 p
+
+  -- What each box keeps, n boxes keep.
+  onward-keeps : (Good : Progress → Type 0) → ((q : Run) → Good (going q) → Good (step flow q)) → (p : Progress) → Good p → Good (onward flow p)
+  unfolding onward
+  onward-keeps Good f (going q) h = f q h
+  onward-keeps Good f (over e steps) h = h
+
+  pub run-keeps : (Good : Progress → Type 0) → ((q : Run) → Good (going q) → Good (step flow q)) → (n : ℕ) (p : Progress) → Good p → Good (run flow n p)
+  run-keeps Good f n p h = lift flow flow (λ k x y. Good x) (λ k x y. onward-keeps Good f x) n p p h
+
   pub over-still : (m : ℕ) (e : Ending) (steps : ℕ) → run flow m (over e steps) ≡ over e steps
-  unfolding run onward
-  over-still zero e steps = refl
-  over-still (suc m) e steps = over-still m e steps
+  over-still m e steps = run-keeps (λ p. p ≡ over e steps) (λ q h. never q h) m (over e steps) refl
+    where
+      never : (q : Run) → going q ≡ over e steps → step flow q ≡ over e steps
+      never q h = let z : _≡_ {A = ℕ} 0 1 = cc in absurd (omega arith)
 
   pub run-one : (n : ℕ) (q : Run) → 0 < n → run flow n (going q) ≡ run flow (n - 1) (step flow q)
   unfolding run onward
@@ -39,13 +63,6 @@ module _ (flow : ℕ → Box) where
   unfolding run
   run-none zero p h = refl
   run-none (suc n) p h = let z : ⊥ = omega arith in absurd z
-
-  -- What each box keeps, m boxes keep.
-  pub run-keeps : (Good : Progress → Type 0) → ((q : Run) → Good (going q) → Good (step flow q)) → (m : ℕ) (p : Progress) → Good p → Good (run flow m p)
-  unfolding run onward
-  run-keeps Good f zero p h = h
-  run-keeps Good f (suc m) (going q) h = run-keeps Good f m (step flow q) (f q h)
-  run-keeps Good f (suc m) (over e steps) h = run-keeps Good f m (over e steps) h
 
 -- A box that goes on: the run is spent, or below its limit. One that may give a notice gives it, or
 -- does something else.
@@ -87,22 +104,11 @@ run-as-begun flow m q = run-keeps flow (AsBegun q) (λ x h. settle-as-begun q _ 
 pub over-twice : (flow : ℕ → Box) (p : Progress) (e : Ending) (n steps m : ℕ) → run flow n p ≡ over e steps → run flow (n + m) p ≡ over e steps
 over-twice flow p e n steps m h = run-add flow n m p ∙ ap (run flow m) h ∙ over-still flow m e steps
 
--- What is kept is what the run has come to, or a notice that names nothing in no steps, where
--- counts are hidden.
-pub disclosed-by : (Good : Progress → Type 0) (m : Mode) (p : Progress) → Good p → (hides m ≡ true → Good (over (notice 0) 0)) → Good (disclosed m p)
-unfolding disclosed
-disclosed-by Good m (going q) h n = h
-disclosed-by Good m (over (valued v) steps) h n = h
-disclosed-by Good m (over (notice named) steps) h n = on (hides m) refl
-  where
-    on : (b : Bool) → hides m ≡ b → Good (cond b (over (notice 0) 0) (over (notice named) steps))
-    on true e = n e
-    on false e = h
-disclosed-by Good m (over spent steps) h n = on (hides m) refl
-  where
-    on : (b : Bool) → hides m ≡ b → Good (cond b (over (notice 0) 0) (over spent steps))
-    on true e = n e
-    on false e = h
+-- A run that has made its limit is spent, and one below it goes on.
+pub goes-spent : (q : Run) → q .limit ≤ q .steps → goesOn q ≡ over spent (q .steps)
+unfolding goesOn
+goes-spent q h = rw (le-leb _ _ h)
 
-pub disclosed-all : (m : Mode) → hides m ≡ false → (p : Progress) → disclosed m p ≡ p
-disclosed-all m e p = disclosed-by (λ x. x ≡ p) m p refl (λ h. absurd (true≢false (sym h ∙ e)))
+pub goes-further : (q : Run) → q .steps < q .limit → goesOn q ≡ going q
+unfolding goesOn
+goes-further q h = rw (lt-leb _ _ h)

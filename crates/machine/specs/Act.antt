@@ -4,8 +4,7 @@ use mathlib.Core.List.{List, map}
 use mathlib.Core.Bool.{cond}
 use lib.ListN.{getD}
 use Rattle.decode.specs.Decode.{Box, assigns, decides, halts}
-use Rattle.marks.specs.Marks.{marked, union, targetMark, decisionNotice, counterMark, haltNotice, namedBy}
-use Rattle.marks.specs.declared.Mode.{Mode}
+use Rattle.marks.specs.Marks.{Mode, marked, union, targetMark, decisionNotice, counterMark, haltNotice, namedBy}
 use Rattle.machine.specs.declared.Act.{Act}
 use Rattle.machine.specs.declared.Act.the-variants.{Store, Go, Value, Notice}
 

@@ -5,8 +5,7 @@ use mathlib.Core.Bool.{cond}
 use lib.Dec.{leb}
 use lib.ListN.{set}
 use Rattle.decode.specs.Decode.{Box}
-use Rattle.marks.specs.Marks.{modeOf, hides}
-use Rattle.marks.specs.declared.Mode.{Mode}
+use Rattle.marks.specs.Marks.{Mode}
 use Rattle.machine.specs.Act.{act}
 use Rattle.machine.specs.declared.Act.{Act}
 use Rattle.machine.specs.declared.Act.the-variants.{Store, Go, Value, Notice}
@@ -17,7 +16,7 @@ pub record Run : Type 0 where
   pub vars : List ℕ
   pub marks : List ℕ
   pub counter : ℕ
-  pub mode : ℕ
+  pub mode : Mode
   pub at : ℕ
   pub limit : ℕ
   pub steps : ℕ
@@ -28,6 +27,18 @@ pub data Ending : Type 0 where
   valued : ℕ → Ending
   notice : (named : ℕ) → Ending
   spent : Ending
+
+-- What an ending carries: a value, 0 where there is none; and 02, a: the set of a notice, where
+-- "All other endings .. carry 0".
+abbrev pub valueIn : Ending → ℕ
+valueIn (valued v) = v
+valueIn (notice named) = 0
+valueIn spent = 0
+
+abbrev pub namedIn : Ending → ℕ
+namedIn (valued v) = 0
+namedIn (notice named) = named
+namedIn spent = 0
 
 -- What a run has come to: it goes on, or it is over after so many steps.
 pub data Progress : Type 0 where
@@ -55,7 +66,7 @@ settle (Notice named) q = over (notice named) (q .steps + 1)
 
 -- The box at hand is run, of a chart's flow.
 abbrev pub step : (flow : ℕ → Box) → Run → Progress
-step flow q = settle (act (modeOf (q .mode)) (flow (q .at)) (q .vars) (q .marks) (q .counter)) q
+step flow q = settle (act (q .mode) (flow (q .at)) (q .vars) (q .marks) (q .counter)) q
 
 -- One box, where the run is not over.
 unfoldable pub onward : (flow : ℕ → Box) → Progress → Progress
@@ -66,11 +77,3 @@ onward flow (over e steps) = over e steps
 unfoldable pub run : (flow : ℕ → Box) → ℕ → Progress → Progress
 run flow zero p = p
 run flow (suc m) p = run flow m (onward flow p)
-
--- What is kept of what a run has come to. 02, b: "In high-water mode a notice and a spent run now
--- end alike: notice, steps 0, inputs 0."
-unfoldable pub disclosed : Mode → Progress → Progress
-disclosed mode (going q) = going q
-disclosed mode (over (valued v) steps) = over (valued v) steps
-disclosed mode (over (notice named) steps) = cond (hides mode) (over (notice 0) 0) (over (notice named) steps)
-disclosed mode (over spent steps) = cond (hides mode) (over (notice 0) 0) (over spent steps)

@@ -1,13 +1,13 @@
-// What one box of a chart does, by the edition of the chart, the mode and its numbers, the
+// What one box of a chart does, by the edition of the chart, the mode and its masks, the
 // variables, their marks and the counter mark.
 use decode::FlowBox;
-use marks::Mode;
 use marks::Masks;
+use marks::Mode;
 ghost use mathlib.Core.Path.{_≡_};
 ghost use mathlib.Core.List.{[], _∷_};
 ghost use Rattle.operations.specs.Operation.{readBy, valueOf, chosen};
 ghost use Rattle.decode.specs.Decode.{meaning};
-ghost use Rattle.marks.specs.Marks.{union, setBy};
+ghost use Rattle.marks.specs.Marks.{modeIn, union, setBy};
 ghost use Rattle.machine.specs.Act.{entry, entries, actBy};
 
 // It stores a value and a mark, it goes to a box with a counter mark, or it ends the run with a
@@ -110,7 +110,7 @@ fn choose<'a>(
 }
 
 // What a box that assigns does, of what it gives: it stores the value, and sets its target's mark
-// by the numbers. It is given no mode.
+// by the masks. It is given no mode.
 fn store<'a>(
     masks: Masks,
     vars: &'a [u32; 32],
@@ -131,7 +131,7 @@ fn store<'a>(
     }
 }
 
-// What the box does; an assignment sets its target's mark by the numbers. By those of the mode this
+// What the box does; an assignment sets its target's mark by the masks. By those of the mode this
 // is the box's act by the rules (`act`).
 pub fn run_box<'a>(
     edition: u8,
@@ -142,7 +142,7 @@ pub fn run_box<'a>(
     marks: &'a [u16; 32],
     counter: u16,
 ) -> Act
-    ensures { λ r. ⌜ r ≡ actBy (setBy masks) mode (meaning edition b) (now (vars .entry)) (now (marks .entry)) counter ⌝ }
+    ensures { λ r. ⌜ r ≡ actBy (setBy masks) (modeIn mode) (meaning edition b) (now (vars .entry)) (now (marks .entry)) counter ⌝ }
 {
     match b {
         FlowBox::Assign {

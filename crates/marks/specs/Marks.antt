@@ -5,14 +5,25 @@ use mathlib.Core.List.{List, [], _∷_}
 use mathlib.Core.Bool.{Bool, true, false, cond, not}
 use lib.Bits.{bitAnd, bitOr}
 use lib.Dec.{eqb}
-use Rattle.marks.specs.declared.Mode.{Mode}
+use Rattle.marks.specs.declared.Mode as code
 use Rattle.marks.specs.declared.Mode.the-variants.{Bare, Surveillance, HighWater}
 use Rattle.marks.specs.declared.Masks.{Masks}
 
--- "mode (0 bare, 1 surveillance, 2 high-water)". No begin with a greater number is accepted; it
--- would read as high-water.
+-- "mode (0 bare, 1 surveillance, 2 high-water)".
+pub data Mode : Type 0 where
+  bare : Mode
+  surveillance : Mode
+  highWater : Mode
+
+-- The mode of a number. No begin with a greater number is accepted; it would read as high-water.
 unfoldable pub modeOf : ℕ → Mode
-modeOf mode = cond (eqb mode 0) Bare (cond (eqb mode 1) Surveillance HighWater)
+modeOf number = cond (eqb number 0) bare (cond (eqb number 1) surveillance highWater)
+
+-- The mode that the code is in.
+abbrev pub modeIn : code.Mode → Mode
+modeIn Bare = bare
+modeIn Surveillance = surveillance
+modeIn HighWater = highWater
 
 -- 02, a: "Each mark becomes a set of withheld inputs, empty exactly where 01 has no mark." So "The
 -- classes of the high-water mark are two".
@@ -26,10 +37,10 @@ union [] = 0
 union (m ∷ marks) = bitOr m (union marks)
 
 -- A rule by the mode: what it gives bare, under surveillance, and with the high-water mark.
-abbrev pub byMode : {A : Type 0} → Mode → (bare surveillance highWater : A) → A
-byMode Bare bare surveillance highWater = bare
-byMode Surveillance bare surveillance highWater = surveillance
-byMode HighWater bare surveillance highWater = highWater
+abbrev pub byMode : {A : Type 0} → Mode → (inBare inSurveillance inHighWater : A) → A
+byMode bare x y z = x
+byMode surveillance x y z = y
+byMode highWater x y z = z
 
 -- The mark of the target after an assignment, by its mark before and the marks read. Bare has no
 -- rule, and the mark stays. "Surveillance: an assignment marks its target if any variable it reads
@@ -44,12 +55,12 @@ targetMark mode before read = byMode mode before read (bitOr before read)
 abbrev pub setMark : (keep before read : ℕ) → ℕ
 setMark keep before read = bitOr read (bitAnd before keep)
 
--- The numbers of a mode: which inputs to keep, "(0 under surveillance, 65,535 under high-water)",
--- and which to take of the sets read. Bare keeps all and takes none.
+-- The masks of a mode: which inputs to keep, "(0 under surveillance, 65,535 under high-water)", and
+-- which to take of the sets read. Bare keeps all and takes none.
 abbrev pub masksOf : Mode → Masks
 masksOf mode = record { keep = byMode mode 65535 0 65535; take = byMode mode 0 65535 65535 }
 
--- The new set by both numbers.
+-- The new set by both masks.
 abbrev pub setBy : Masks → (before read : ℕ) → ℕ
 setBy masks before read = setMark (masks .keep) before (bitAnd read (masks .take))
 

@@ -16,9 +16,9 @@ use Rattle.texts.specs.Printing.{refusedText}
 use Rattle.runner.specs.declared.Runner.{Runner}
 use Rattle.runner.specs.State.{chartIn, isRunning, standingOf}
 use Rattle.runner.specs.Outcomes.{after, says, outcomeBy, call}
-use Rattle.claims.specs.Lists.{final}
-use Rattle.claims.proofs.RunLaws.{one-advance-ends}
-use Rattle.claims.proofs.Secrecy.{begin-permits, starts-same}
+use Rattle.call_claims.specs.Lists.{final}
+use Rattle.call_claims.proofs.RunLaws.{one-advance-ends}
+use Rattle.call_claims.proofs.Secrecy.{begin-permits, starts-same}
 use Rattle.reply.specs.Reply.{replyText, isAccepted, beginOf, runOut, answered, respond}
 use Rattle.program_claims.specs.LineClaims.{LinesEnd, LinesApart}
 

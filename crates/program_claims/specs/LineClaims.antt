@@ -8,7 +8,7 @@ use Rattle.calls.specs.Calls.{answer}
 use Rattle.runner.specs.declared.Runner.{Runner}
 use Rattle.runner.specs.State.{chartIn, isRunning}
 use Rattle.runner.specs.Outcomes.{call}
-use Rattle.claims.specs.Lists.{Accepted}
+use Rattle.call_claims.specs.Lists.{Accepted}
 use Rattle.reply.specs.Reply.{beginOf, runOut, respond}
 
 -- A line whose begin is accepted prints an ending, in every mode: the program advances by 65,535,

@@ -12,20 +12,19 @@ use lib.ListN.{length}
 use borrow.Author.Tests.{leb-true, leb-false}
 use Rattle.boxes.specs.Bytes.{at, boxOf}
 use Rattle.boxes.proofs.Places.{no-box}
-use Rattle.format.specs.declared.Header.{Header}
-use Rattle.rewrite.specs.Rewrite.{ifTrue, ifFalse, isCopy, isReplaced, choiceOf, replacedAt, rewrittenBox, rewritten}
+use Rattle.chart.specs.Chart.{Chart}
+use Rattle.rewrite.specs.Rewrite.{ifTrue, ifFalse, isCopy, isReplaced, choiceOf, replacedAt, rewrittenBox, rewritten, rewrittenChart}
 use Rattle.rewrite.proofs.Copies.{is-copy, alike-says, copy-below}
 use Rattle.rewrite.proofs.Replaced.{replaced-says, kept-box}
 use Rattle.chart_claims.proofs.Rewritten.{rewritten-by-places}
 use Rattle.operations.specs.Operation.{readBy, valueOfLeft, valueOf}
 use Rattle.decode.specs.Decode.{littleEndian, decode, meaning, flow}
 use Rattle.decode.proofs.Decoded.{box-here, box-past}
-use Rattle.marks.specs.Marks.{modeOf}
-use Rattle.marks.specs.declared.Mode.the-variants.{Bare}
-use Rattle.machine.specs.Run.{Run, valued, Progress, going, over, run}
-use Rattle.machine.proofs.Runs.{disclosed-all}
-use Rattle.runner.specs.Whole.{startOf, Finish, finish, whole}
-use Rattle.claims.proofs.Branches.{clash}
+use Rattle.marks.specs.Marks.{bare}
+use Rattle.machine.specs.Run.{valued, going, over, run}
+use Rattle.runs.proofs.Disclosed.{disclosed-all, finish-valued}
+use Rattle.runner.specs.State.{flowchartOf}
+use Rattle.runs.specs.Whole.{startOf, finish, whole}
 use Rattle.rewrite_claims.specs.Rewriting.{boxesRun}
 use Rattle.rewrite_claims.proofs.Shorter.{Copies, Chooses, Becomes, stays, chooses, shorter}
 
@@ -94,32 +93,18 @@ module _ (edition : ℕ) (table : List ℕ) (long : length table ≡ 2040) where
       by true e = past-becomes p (leb-true 204 p e)
       by false e = place-becomes p (leb-false 204 p e)
 
-  -- Whatever both have counted before.
-  pub run-shorter : (m : ℕ) (q : Run) (v s : ℕ) → modeOf (q .mode) ≡ Bare → run (flow edition table) m (going q) ≡ over (valued v) s
-      → let n = boxesRun (flow edition (rewritten table)) (replacedAt table) m (going q) in
-      (n ≤ s) × (run (flow edition (rewritten table)) m (going q) ≡ over (valued v) (s - n))
-  run-shorter m q v s bare o =
-      let new = shorter (flow edition table) (flow edition (rewritten table)) (replacedAt table) v s becomes m q (q .steps) bare (omega arith) o in
-      let fewer = new .fewer in
-      (omega arith, new .ends ∙ ap (over (valued v)) (omega arith))
-
--- What finishes with a value is over with it.
-finish-valued : (p : Progress) (v s : ℕ) → finish p ≡ record { ending = valued v; steps = s } → p ≡ over (valued v) s
-unfolding finish
-finish-valued (going q) v s is = let ending = ap (λ (x : Finish). x .ending) is in clash cc
-finish-valued (over e steps) v s is =
-    let ending = ap (λ (x : Finish). x .ending) is in
-    let count = ap (λ (x : Finish). x .steps) is in
-    cc
-
-pub whole-shorter : (h : Header) (table : List ℕ) → length table ≡ 2040 → (inputs : List ℕ) (allowed limit v steps : ℕ)
-    → whole h table 0 inputs allowed limit ≡ record { ending = valued v; steps = steps }
-    → let fewer = boxesRun (flow (h .edition) (rewritten table)) (replacedAt table) limit (going (startOf 0 inputs allowed limit h)) in
-    (fewer ≤ steps) × (whole h (rewritten table) 0 inputs allowed limit ≡ record { ending = valued v; steps = steps - fewer })
-unfolding whole finish modeOf
-whole-shorter h table long inputs allowed limit v steps e =
-    let start = startOf 0 inputs allowed limit h in
-    let old = run (flow (h .edition) table) limit (going start) in
-    let ends = finish-valued old v steps (ap finish (sym (disclosed-all Bare refl old)) ∙ e) in
-    let new = run-shorter (h .edition) table long limit start v steps refl ends in
-    (new .0, ap finish (disclosed-all Bare refl _ ∙ new .1))
+-- A whole bare run.
+pub whole-shorter : (c : Chart) → length (c .table) ≡ 2040 → (inputs : List ℕ) (allowed limit v steps : ℕ)
+    → whole (flowchartOf c) bare inputs allowed limit ≡ record { ending = valued v; steps = steps }
+    → let new = flowchartOf (rewrittenChart c) in
+    let fewer = boxesRun (new .flow) (replacedAt (c .table)) limit (going (startOf new bare inputs allowed limit)) in
+    (fewer ≤ steps) × (whole new bare inputs allowed limit ≡ record { ending = valued v; steps = steps - fewer })
+unfolding whole finish
+whole-shorter c long inputs allowed limit v steps e =
+    let start = startOf (flowchartOf c) bare inputs allowed limit in
+    let old = run (flowchartOf c .flow) limit (going start) in
+    let new = flowchartOf (rewrittenChart c) .flow in
+    let ends = finish-valued old v steps (ap finish (sym (disclosed-all bare refl old)) ∙ e) in
+    let (fewer, is, sum) = shorter (flowchartOf c .flow) new (replacedAt (c .table)) (becomes (c .header .edition) (c .table) long) limit start v steps refl ends in
+    let count : fewer ≡ steps - boxesRun new (replacedAt (c .table)) limit (going start) = omega arith in
+    (omega arith, ap finish (disclosed-all bare refl (run new limit (going start)) ∙ is ∙ ap (over (valued v)) count))

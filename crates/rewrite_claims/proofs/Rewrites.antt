@@ -12,16 +12,17 @@ use Rattle.format.specs.declared.Header.{Header}
 use Rattle.chart.specs.WriteBack.{fileLength}
 use Rattle.rewrite.specs.Rewrite.{replacedAt, rewrittenChart}
 use Rattle.chart_claims.proofs.Rewritten.{rewritten-by-places}
+use Rattle.marks.specs.Marks.{bare}
 use Rattle.calls.specs.Calls.{rewrite}
 use Rattle.calls.proofs.Permits.{rewrites-second}
 use Rattle.runner.specs.declared.Runner.{Runner}
 use Rattle.runner.specs.State.{chartIn, isHeld, isRunning, isEnded, standingOf, idle, dropped}
 use Rattle.runner.specs.Outcomes.{done, Outcome, outcome, says, after, outcomeBy, call}
-use Rattle.claims.specs.Lists.{Reached, then, Accepted}
-use Rattle.claims.specs.Charts.{Obeys}
-use Rattle.claims.proofs.Accepting.{call-done}
-use Rattle.claims.proofs.OneChart.{room-accepts, write-does}
-use Rattle.claims.proofs.ChartLaws.{held-obeys, written-is-loaded}
+use Rattle.call_claims.specs.Lists.{Reached, then, Accepted}
+use Rattle.call_claims.specs.Charts.{Obeys}
+use Rattle.call_claims.proofs.Accepting.{call-done}
+use Rattle.call_claims.proofs.OneChart.{room-accepts, write-does}
+use Rattle.call_claims.proofs.ChartLaws.{held-obeys, written-is-loaded}
 use Rattle.rewrite_claims.specs.Rewriting.{WritesItself, Rewrites, RewritesHeld, EndsInFewer, FewerSteps, RewritesWithinBounds}
 use Rattle.rewrite_claims.proofs.Flows.{whole-shorter}
 
@@ -68,8 +69,8 @@ rewrites-held r made a = rewrites r made a
 
 pub fewer-steps : FewerSteps
 fewer-steps r made a inputs allowed limit v steps e =
-    subst (EndsInFewer 0 (replacedAt (r .table)) inputs allowed limit v steps) (sym (is r made a))
-    (whole-shorter (r .header) (r .table) (long r made a) inputs allowed limit v steps e)
+    subst (EndsInFewer bare (replacedAt (r .table)) inputs allowed limit v steps) (sym (is r made a))
+    (whole-shorter (chartIn r) (long r made a) inputs allowed limit v steps e)
 
 pub rewrites-within-bounds : RewritesWithinBounds
 rewrites-within-bounds r r′ made a rests =

@@ -1,27 +1,27 @@
 -- Two flows, of which the new one has choices in the place of decisions between two copies, and
 -- their bare runs: where the old run comes to a value, so does the new one, in as many fewer steps
--- as choices put in were run. By induction on the boxes, the two runs being at one box with the
--- same variables and marks. A box that stays does the same to both; where a choice was put in, the
--- old run takes two boxes, the decision and a copy, and the new one takes one. The new run has
--- never counted more than the old one, so it goes on where that does. Assumes nothing.
-use Prim.Native.Nat.{ℕ, zero, suc, _+_, _%_, _≤_, _<_}
-use mathlib.Core.Path.{_≡_, refl, ap, sym, _∙_}
+-- as choices put in were run. The relation: the old run, by as many boxes further as the new one has
+-- saved, is at the same box with the same variables and marks, and has counted as many more. A box
+-- that stays does the same to both; where a choice was put in, the old run takes two boxes, the
+-- decision and a copy, and the new one takes one. The new run has never counted more than the old
+-- one, so it goes on where that does. Assumes nothing.
+use Prim.Native.Nat.{ℕ, zero, suc, _+_, _%_}
+use mathlib.Core.Path.{_≡_, refl, ap, sym, _∙_, subst}
 use mathlib.Core.List.{List, [], _∷_}
 use mathlib.Core.Bool.{Bool, true, false, cond}
-use native.Mathlib.Numerals.{add-one}
+use native.Mathlib.Nat.{zero-add}
 use native.Mathlib.Omega.{arith}
 use lib.ListN.{set}
 use Rattle.operations.specs.Operation.{compares, chosen}
 use Rattle.decode.specs.Decode.{Box, assigns, decides}
-use Rattle.marks.specs.Marks.{modeOf}
-use Rattle.marks.specs.declared.Mode.the-variants.{Bare}
+use Rattle.marks.specs.Marks.{bare}
 use Rattle.machine.specs.Act.{entry, entries, actBy}
 use Rattle.machine.specs.Run.{Run, Ending, valued, Progress, going, over, moved, goesOn, settle, step, onward, run}
 use Rattle.machine.specs.declared.Act.{Act}
 use Rattle.machine.specs.declared.Act.the-variants.{Store, Go, Value, Notice}
-use Rattle.machine.proofs.Runs.{over-still, over-twice, goes-by}
-use Rattle.runner.proofs.Boxes.{goes-further}
-use Rattle.claims.proofs.Branches.{clash}
+use Rattle.machine.proofs.Runs.{lift, run-add, over-still, goes-by, goes-further}
+use Rattle.run_claims.proofs.Branches.{clash}
+use Rattle.run_claims.proofs.Lost.{Lost, counted, noticed, used-up, run-lost}
 use Rattle.rewrite_claims.specs.Rewriting.{boxesRun}
 
 -- A box that copies a variable to a target.
@@ -60,10 +60,10 @@ abbrev copied : Run → (target from next : ℕ) → Run
 copied q target from next =
     moved q (set (q .vars) (target % 32) (entry (q .vars) from)) (set (q .marks) (target % 32) (entry (q .marks) target)) (q .counter) next
 
-copy-step : (f : ℕ → Box) {target from next : ℕ} (q : Run) → modeOf (q .mode) ≡ Bare → Copies target from next (f (q .at))
+copy-step : (f : ℕ → Box) {target from next : ℕ} (q : Run) → q .mode ≡ bare → Copies target from next (f (q .at))
     → step f q ≡ goesOn (copied q target from next)
 unfolding settle actBy
-copy-step f q bare c = rw (bare, c .is, c .same)
+copy-step f q is-bare c = rw (is-bare, c .is, c .same)
 
 entry-of-either : (b : Bool) (vars : List ℕ) (one other : ℕ) → cond b (entry vars one) (entry vars other) ≡ entry vars (cond b one other)
 entry-of-either true vars one other = refl
@@ -74,18 +74,18 @@ next-copies : {f f′ : ℕ → Box} {p : ℕ} (c : Chooses f f′ p) (b : Bool)
 next-copies c true = c .if-true
 next-copies c false = c .if-false
 
-module _ {f f′ : ℕ → Box} (q : Run) (bare : modeOf (q .mode) ≡ Bare) (c : Chooses f f′ (q .at)) where
+module _ {f f′ : ℕ → Box} (q : Run) (is-bare : q .mode ≡ bare) (c : Chooses f f′ (q .at)) where
   -- Whether the comparison holds.
   abbrev holds : Bool
   holds = compares (c .comparison) (entries (q .vars) (c .left ∷ c .right ∷ []))
 
   decision-step : step f q ≡ goesOn (decided q (cond holds (c .true-next) (c .false-next)))
   unfolding settle actBy
-  decision-step = rw (bare, c .decision)
+  decision-step = rw (is-bare, c .decision)
 
   choice-step : step f′ q ≡ goesOn (copied q (c .target) (cond holds (c .one) (c .other)) (c .next))
   unfolding settle actBy chosen compares
-  choice-step = rw (bare, c .choice, entry-of-either)
+  choice-step = rw (is-bare, c .choice, entry-of-either)
 
 none-run : (f : ℕ → Box) (some : ℕ → Bool) (m : ℕ) (e : Ending) (steps : ℕ) → boxesRun f some m (over e steps) ≡ 0
 unfolding boxesRun
@@ -96,73 +96,97 @@ none-run f some (suc m) e steps = refl
 abbrev pub counting : Run → (k : ℕ) → Run
 counting q k = record { vars = q .vars; marks = q .marks; counter = q .counter; mode = q .mode; at = q .at; limit = q .limit; steps = k }
 
-module _ (f f′ : ℕ → Box) (put : ℕ → Bool) (v s : ℕ) where
-  -- m boxes of the old run come to the value v, in s steps.
-  abbrev pub Old : (m : ℕ) → Progress → Type 0
-  Old m p = run f m p ≡ over (valued v) s
+-- The new run and the old one, which has counted j more, until that can tell no value any more.
+data Ahead (j : ℕ) : (new old : Progress) → Type 0 where
+  level : {q : Run} {k : ℕ} → q .mode ≡ bare → k ≡ q .steps + j → Ahead j (going q) (going (counting q k))
+  ended : {v s t : ℕ} → t ≡ s + j → Ahead j (over (valued v) s) (over (valued v) t)
+  lost : {new old : Progress} → Lost old → Ahead j new old
 
-  -- m boxes of the new run come to it, in as many fewer steps as boxes put in are run: the old run
-  -- counts from k to s, the new one from c to its steps.
-  pub record New (m : ℕ) (p : Progress) (k c : ℕ) : Type 0 where
-    pub steps : ℕ
-    pub ends : run f′ m p ≡ over (valued v) steps
-    pub fewer : steps + boxesRun f′ put m p + k ≡ s + c
+module _ (j : ℕ) where
+  goes-ahead : (q : Run) (k : ℕ) → q .mode ≡ bare → k ≡ q .steps + j → Ahead j (goesOn q) (goesOn (counting q k))
+  goes-ahead q k is-bare e =
+      goes-by (λ x. Ahead j (goesOn q) x) (counting q k) (lost used-up) (λ below. rw (goes-further q (omega arith)) (level is-bare e))
 
-  -- What is to be shown of m boxes of both.
-  abbrev pub Level : (m : ℕ) → Type 0
-  Level m = (q : Run) (k : ℕ) → modeOf (q .mode) ≡ Bare → q .steps ≤ k → Old m (going (counting q k)) → New m (going q) k (q .steps)
+  -- The same act of both.
+  settle-ahead : (a : Act) (q : Run) (k : ℕ) → q .mode ≡ bare → k ≡ q .steps + j → Ahead j (settle a q) (settle a (counting q k))
+  unfolding settle
+  settle-ahead (Store target value mark next) q k is-bare e = goes-ahead (moved q _ _ _ _) (k + 1) is-bare (omega arith)
+  settle-ahead (Go next counter) q k is-bare e = goes-ahead (moved q _ _ _ _) (k + 1) is-bare (omega arith)
+  settle-ahead (Value v) q k is-bare e = ended (omega arith)
+  settle-ahead (Notice named) q k is-bare e = lost noticed
 
-  -- A run that comes to a value was not over without one, and went on.
-  valued-only : {A : Type 0} (m steps : ℕ) (e : Ending) → Old m (over e steps) → (e ≡ valued v → A) → A
-  valued-only m steps e o h = let still = over-still f m e steps in h cc
+  -- Where the old run has the value, so does the new one.
+  ahead-value : {new old : Progress} (v s : ℕ) → Ahead j new old → old ≡ over (valued v) s → (steps : ℕ) × (new ≡ over (valued v) steps) × (s ≡ steps + j)
+  ahead-value v s (level is-bare e) is = clash cc
+  ahead-value v s (ended {v = w} {s = steps} {t = t} e) is = (steps, ap (λ (x : ℕ). over (valued x) steps) (value-once is), sym (count-once is) ∙ e)
+    where
+      value-once : {a b c d : ℕ} → over (valued a) c ≡ over (valued b) d → a ≡ b
+      value-once z = cc
 
-  went-on : {A : Type 0} (m : ℕ) (q : Run) → Old m (goesOn q) → (q .steps < q .limit → Old m (going q) → A) → A
-  went-on {A} m q o h = goes-by (λ p. Old m p → A) q (λ spent. valued-only m _ _ spent (λ e. clash cc)) h o
+      count-once : {a b c d : ℕ} → over (valued a) c ≡ over (valued b) d → c ≡ d
+      count-once z = cc
+  ahead-value v s (lost (counted m c)) is = clash cc
+  ahead-value v s (lost noticed) is = clash cc
+  ahead-value v s (lost used-up) is = clash cc
 
-  -- The new run takes one box, and the old one counts one more for it, or two where it was put in.
-  one-more : (m k k′ : ℕ) (q : Run) → k + 1 + cond (put (q .at)) 1 0 ≡ k′ → New m (step f′ q) k′ (q .steps + 1) → New (suc m) (going q) k (q .steps)
-  unfolding run onward boxesRun
-  one-more m k k′ q e n = record { steps = n .steps; ends = n .ends; fewer = let fewer = n .fewer in omega arith }
+module _ (f f′ : ℕ → Box) (put : ℕ → Bool) (becomes : (p : ℕ) → Becomes f f′ put p) where
+  -- How many boxes the next one saves.
+  saved : Progress → ℕ
+  saved (going q) = cond (put (q .at)) 1 0
+  saved (over e steps) = 0
 
-  module _ (m : ℕ) (level : Level m) where
-    goes-level : (q : Run) (k : ℕ) → modeOf (q .mode) ≡ Bare → q .steps ≤ k → Old m (goesOn (counting q k)) → New m (goesOn q) k (q .steps)
-    goes-level q k bare few o = went-on m (counting q k) o (λ below o. rw (goes-further q (omega arith)) (level q k bare few o))
+  count-saved : (m : ℕ) (p : Progress) → boxesRun f′ put (suc m) p ≡ saved p + boxesRun f′ put m (onward f′ p)
+  unfolding boxesRun onward saved
+  count-saved m (going q) = refl
+  count-saved m (over e steps) = omega (arith, none-run f′ put m e steps)
 
-    module _ (q : Run) (k : ℕ) (bare : modeOf (q .mode) ≡ Bare) (few : q .steps ≤ k) where
-      settle-level : (a : Act) → Old m (settle a (counting q k)) → New m (settle a q) (k + 1) (q .steps + 1)
-      unfolding settle
-      settle-level (Store target value mark next) o = goes-level (moved q _ _ _ _) (k + 1) bare (omega arith) o
-      settle-level (Go next counter) o = goes-level (moved q _ _ _ _) (k + 1) bare (omega arith) o
-      settle-level (Value w) o =
-          let still = over-still f m (valued w) (k + 1) in
-          let is : w ≡ v = cc in
-          let count : k + 1 ≡ s = cc in
-          record {
-            steps = q .steps + 1;
-            ends = over-still f′ m (valued w) (q .steps + 1) ∙ ap (λ (x : ℕ). over (valued x) (q .steps + 1)) is;
-            fewer = omega (arith, none-run f′ put m (valued w) (q .steps + 1));
-          }
-      settle-level (Notice named) o = valued-only m (k + 1) _ o (λ e. clash cc)
+  -- The old run at a decision between two copies, and then at the copy.
+  copy-ahead : (j : ℕ) (q : Run) (k : ℕ) → q .mode ≡ bare → k ≡ q .steps + j → (c : Chooses f f′ (q .at))
+      → Ahead (1 + j) (step f′ q) (onward f (step f (counting q k)))
+  unfolding onward
+  copy-ahead j q k is-bare e c =
+      let b = holds q is-bare c in
+      let at = cond b (c .true-next) (c .false-next) in
+      let from = cond b (c .one) (c .other) in
+      let before = decided (counting q k) at in
+      rw (choice-step q is-bare c, decision-step (counting q k) is-bare c)
+      (goes-by (λ x. Ahead (1 + j) (goesOn (copied q (c .target) from (c .next))) (onward f x)) before (lost used-up)
+      (λ below. rw (copy-step f before is-bare (next-copies c b)) (goes-ahead (1 + j) (copied q (c .target) from (c .next)) (k + 1 + 1) is-bare (omega arith))))
 
-      -- The old run is at a copy. As it is over after m boxes, it is over after the copy and m
-      -- more.
-      copy-level : {target from next : ℕ} (at : ℕ) → Copies target from next (f at) → Old m (goesOn (counting (decided q at) (k + 1)))
-          → New m (goesOn (copied q target from next)) (k + 1 + 1) (q .steps + 1)
-      unfolding run onward
-      copy-level at c o =
-          let before = counting (decided q at) (k + 1) in
-          went-on m before o
-          (λ below o.
-          goes-level (copied q _ _ _) (k + 1 + 1) bare (omega arith)
-          (ap (run f m) (sym (copy-step f before bare c)) ∙ rw (add-one m) at (over-twice f (going before) (valued v) m s 1 o)))
+  -- One box of the new run, and one or two of the old one.
+  box-ahead : (j : ℕ) {p x : Progress} → Ahead j p x → Ahead (saved p + j) (onward f′ p) (run f (suc (saved p)) x)
+  unfolding run onward saved
+  box-ahead j (level {q = q} {k = k} is-bare e) = by (becomes (q .at))
+    where
+      by : Becomes f f′ put (q .at) → Ahead (cond (put (q .at)) 1 0 + j) (step f′ q) (run f (cond (put (q .at)) 1 0) (step f (counting q k)))
+      by (stays none same) = rw (none, same) (settle-ahead (0 + j) _ q k is-bare (omega arith))
+      by (chooses some c) = rw some (copy-ahead j q k is-bare e c)
+  box-ahead j (ended e) = ended (omega arith)
+  box-ahead j {p} (lost l) = lost (run-lost f (suc (saved p)) l)
 
-      box-level : Becomes f f′ put (q .at) → Old m (step f (counting q k)) → New (suc m) (going q) k (q .steps)
-      box-level (stays e same) o = one-more m k (k + 1) q (rw e (omega arith)) (rw same (settle-level _ o))
-      box-level (chooses e c) o =
-          let decision = ap (run f m) (sym (decision-step (counting q k) bare c)) in
-          one-more m k (k + 1 + 1) q (rw e) (rw (choice-step q bare c) (copy-level _ (next-copies c (holds q bare c)) (decision ∙ o)))
+  -- What is left to count, and where the old run is by as many boxes further as were saved.
+  abbrev Saves : (n total k : ℕ) (new old : Progress) → Type 0
+  Saves n total k new old = (m : ℕ) → k + m ≡ n → (j : ℕ) × (j + boxesRun f′ put m new ≡ total) × Ahead j new (run f j old)
 
-  pub shorter : ((p : ℕ) → Becomes f f′ put p) → (m : ℕ) → Level m
-  unfolding run onward
-  shorter becomes zero q k bare few o = clash cc
-  shorter becomes (suc m) q k bare few o = box-level m (shorter becomes m) q k bare few (becomes (q .at)) o
+  box-saves : (n total k : ℕ) (new old : Progress) → Saves n total k new old → Saves n total (suc k) (onward f′ new) (onward f old)
+  unfolding run
+  box-saves n total k new old h m e =
+      let (j, count, ahead) = h (suc m) (omega arith) in
+      let one = saved new in
+      let same : j + suc one ≡ suc (one + j) = omega arith in (
+        one + j,
+        omega (arith, count, count-saved m new),
+        subst (λ (i : ℕ). Ahead (one + j) (onward f′ new) (run f i old)) same
+            (subst (Ahead (one + j) (onward f′ new)) (sym (run-add f j (suc one) old)) (box-ahead j ahead)),
+      )
+
+  pub shorter : (n : ℕ) (q : Run) (v s : ℕ) → q .mode ≡ bare → run f n (going q) ≡ over (valued v) s
+      → (steps : ℕ) × (run f′ n (going q) ≡ over (valued v) steps) × (s ≡ steps + boxesRun f′ put n (going q))
+  unfolding run
+  shorter n q v s is-bare o =
+      let total = boxesRun f′ put n (going q) in
+      let first : Saves n total 0 (going q) (going q) =
+      λ m e. (0, ap (λ (i : ℕ). 0 + boxesRun f′ put i (going q)) (omega arith) ∙ zero-add total, level {q = q} is-bare (omega arith)) in
+      let (j, count, ahead) = lift f′ f (Saves n total) (box-saves n total) n (going q) (going q) first 0 (omega arith) in
+      let (steps, is, sum) = ahead-value j v s ahead (ap (run f j) o ∙ over-still f j (valued v) s) in
+      (steps, is, omega arith)

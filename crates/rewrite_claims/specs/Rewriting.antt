@@ -8,14 +8,15 @@ use lib.ListN.{length, take, replicate}
 use Rattle.boxes.specs.Bytes.{boxOf}
 use Rattle.rewrite.specs.Rewrite.{replacedAt, rewrittenBox}
 use Rattle.decode.specs.Decode.{Box}
+use Rattle.marks.specs.Marks.{Mode, bare}
 use Rattle.machine.specs.Run.{valued, Progress, going, over, step}
 use Rattle.calls.specs.Calls.{load, writeBack, rewrite}
 use Rattle.runner.specs.declared.Runner.{Runner}
-use Rattle.runner.specs.State.{isHeld, isRunning, isEnded, flowIn}
-use Rattle.runner.specs.Whole.{startOf, whole}
+use Rattle.runner.specs.State.{isHeld, isRunning, isEnded, flowchartIn, flowIn}
+use Rattle.runs.specs.Whole.{startOf, whole}
 use Rattle.runner.specs.Outcomes.{done, chart, wrote, call}
-use Rattle.claims.specs.Lists.{Reached, Accepted}
-use Rattle.claims.specs.Charts.{Obeys}
+use Rattle.call_claims.specs.Lists.{Reached, Accepted}
+use Rattle.call_claims.specs.Charts.{Obeys}
 
 -- Written back, the chart of a runner is a file that loads to it.
 abbrev pub WritesItself : Runner → Type 0
@@ -51,28 +52,28 @@ boxesRun flow counted (suc m) (over e steps) = 0
 
 -- A whole run of a runner's chart in a mode ends with a value, in as many fewer steps than given as
 -- boxes that count were run.
-abbrev pub EndsInFewer : (mode : ℕ) (counted : ℕ → Bool) (inputs : List ℕ) (allowed limit v steps : ℕ) → Runner → Type 0
+abbrev pub EndsInFewer : (mode : Mode) (counted : ℕ → Bool) (inputs : List ℕ) (allowed limit v steps : ℕ) → Runner → Type 0
 EndsInFewer mode counted inputs allowed limit v steps x =
-    let fewer = boxesRun (flowIn x) counted limit (going (startOf mode inputs allowed limit (x .header))) in
-    (fewer ≤ steps) × (whole (x .header) (x .table) mode inputs allowed limit ≡ record { ending = valued v; steps = steps - fewer })
+    let fewer = boxesRun (flowIn x) counted limit (going (startOf (flowchartIn x) mode inputs allowed limit)) in
+    (fewer ≤ steps) × (whole (flowchartIn x) mode inputs allowed limit ≡ record { ending = valued v; steps = steps - fewer })
 
 -- In a mode, and with some boxes counted, by the old table and the new one: where a whole run of
 -- the old chart ends with a value, that of the new one, "from the same inputs and limit, ends with
 -- that value, in as many fewer steps as" boxes that count "were run".
-abbrev pub FewerStepsBy : (mode : ℕ) (counts : (old new : List ℕ) → ℕ → Bool) → Type 0
+abbrev pub FewerStepsBy : (mode : Mode) (counts : (old new : List ℕ) → ℕ → Bool) → Type 0
 FewerStepsBy mode counts =
     (r : Runner)
     → Reached r
     → Accepted rewrite r
     → (inputs : List ℕ) (allowed limit v steps : ℕ)
-    → whole (r .header) (r .table) mode inputs allowed limit ≡ record { ending = valued v; steps = steps }
+    → whole (flowchartIn r) mode inputs allowed limit ≡ record { ending = valued v; steps = steps }
     → let new = call rewrite r .next in EndsInFewer mode (counts (r .table) (new .table)) inputs allowed limit v steps new
 
 -- "If the bare old chart ends with a value, the bare new one, from the same inputs and limit, ends
 -- with that value, in as many fewer steps as kind 4 boxes put in by the rewriter were run." It puts
 -- one into each place that it replaces; a kind 4 box that was drawn does not count.
 abbrev pub FewerSteps : Type 0
-FewerSteps = FewerStepsBy 0 (λ old new. replacedAt old)
+FewerSteps = FewerStepsBy bare (λ old new. replacedAt old)
 
 -- `Rewrites` at its exact bounds: the last place, and a buffer of exactly 2,560 bytes. It follows
 -- from `RewritesHeld` alone.

@@ -16,21 +16,20 @@ use denote.Array.{each}
 use denote.Struct.Field.{u16-field}
 use denote.Struct.Declared.{row}
 use denote.Struct.Laws.{val}
-use borrow.Author.Tests.{le-leb, lt-leb}
 use Rattle.decode.specs.Decode.{boxFrom, boxAt, Box, meaning}
 use Rattle.decode.proofs.Decoded.{Finds}
 use Rattle.decode.specs.declared.FlowBox.{FlowBox}
 use Rattle.format.specs.declared.Refusal.{Refusal}
-use Rattle.marks.specs.Marks.{modeOf, masksOf, setBy, hides}
+use Rattle.marks.specs.Marks.{Mode, bare, surveillance, highWater, modeOf, masksOf, setBy, hides}
 use Rattle.marks.specs.declared.Masks.{Masks}
-use Rattle.marks.specs.declared.Mode.{Mode}
-use Rattle.marks.specs.declared.Mode.the-variants.{Bare, Surveillance, HighWater}
 use Rattle.machine.specs.Act.{actBy, act}
-use Rattle.machine.specs.Run.{Run, Ending, valued, notice, spent, Progress, going, over, moved, goesOn, settle, step, run, disclosed}
+use Rattle.machine.specs.Run.{Run, Ending, valued, notice, spent, valueIn, namedIn, Progress, going, over, moved, goesOn, settle, step, run}
+use Rattle.runs.specs.Whole.{disclosed}
+use Rattle.runs.proofs.Disclosed.{disclosed-by}
 use Rattle.machine.specs.declared.Act.{Act}
 use Rattle.machine.specs.declared.Act.the-variants.{Store}
 use Rattle.machine.proofs.Acts.{SixteenInputs, sixteen-set, act-by-masks, StoresSixteen, stores-sixteen}
-use Rattle.machine.proofs.Runs.{over-still, run-one, disclosed-by}
+use Rattle.machine.proofs.Runs.{over-still, run-one}
 use Rattle.calls.specs.Calls.{byVerdict, check}
 use Rattle.calls.specs.Calls as calls
 use Rattle.calls.specs.declared.Verdict.{Verdict}
@@ -38,7 +37,7 @@ use Rattle.calls.specs.declared.Verdict.the-variants.{Done, Refused}
 use Rattle.runner.specs.declared.Runner.{Runner}
 use Rattle.runner.specs.declared.AdvanceTold.{AdvanceTold}
 use Rattle.runner.specs.declared.Remains.{Remains}
-use Rattle.runner.specs.State.{chartIn, standingOf, stateOf, valueIn, namedIn, runnerOf, runIn, withRun, noRun, endedWith, flowIn, resumed}
+use Rattle.runner.specs.State.{chartIn, standingOf, stateOf, runnerOf, runIn, withRun, noRun, endedWith, flowIn, resumed}
 use Rattle.runner.specs.Outcomes.{outcome, progressReply, call}
 use Rattle.runner.specs.Outcomes as outcomes
 use Rattle.runner.specs.Replies.{advanceReply}
@@ -49,12 +48,12 @@ use Rattle.runner.proofs.Outcomes.{advance-runs, advance-refuses}
 -- The run in a runner, at another box after other steps, as the loop keeps them.
 abbrev pub seen : Runner → (at steps : ℕ) → Run
 seen s at steps =
-    record { vars = s .vars; marks = s .marks; counter = s .counter; mode = s .mode; at = at; limit = s .limit; steps = steps }
+    record { vars = s .vars; marks = s .marks; counter = s .counter; mode = modeOf (s .mode); at = at; limit = s .limit; steps = steps }
 
 -- A runner with what a box stores.
 abbrev pub placed : Runner → (vars marks : List ℕ) → (counter : ℕ) → Runner
 placed r vars marks counter =
-    withRun (record { vars = vars; marks = marks; counter = counter; mode = r .mode; at = r .at; limit = r .limit; steps = r .steps }) r
+    withRun (record { vars = vars; marks = marks; counter = counter; mode = modeOf (r .mode); at = r .at; limit = r .limit; steps = r .steps }) r
 
 -- A runner that differs from another in what boxes store alone.
 abbrev pub Stored : Runner → Runner → Type 0
@@ -65,7 +64,7 @@ stored-more r s q vars marks counter h e =
     subst (Stored r) (sym (e ∙ ap (λ (x : Runner). placed x vars marks counter) h)) refl
 
 -- The box at hand of a runner s that has come from r, by the half of its number, and the act that
--- the code computed of it by the numbers of the mode.
+-- the code computed of it by the masks of the mode.
 pub acts : (s r : Runner) (edition : ℕ) (mode : Mode) (masks : Masks) (at half steps : ℕ) (b : FlowBox) (a : Act) → Stored r s → SixteenInputs (s .marks)
     → edition ≡ r .header .edition → mode ≡ modeOf (r .mode) → masks ≡ masksOf mode → Finds half at
     → b ≡ boxFrom (s .table) (2 * half) → a ≡ actBy (setBy masks) mode (meaning edition b) (s .vars) (s .marks) (s .counter)
@@ -116,15 +115,6 @@ pub left : (flow : ℕ → Box) (r s : Runner) (from steps : ℕ) (vars marks : 
 left flow r s from steps vars marks counter to at e d g =
     g ∙ ap (λ (n : ℕ). goesOn (seen (placed r vars marks counter) n (steps + 1))) (sym d) ∙ ap (λ (x : Runner). goesOn (seen x at (steps + 1))) (sym e)
 
--- It makes the count equal the limit, or the run goes on.
-pub goes-spent : (q : Run) → q .limit ≤ q .steps → goesOn q ≡ over spent (q .steps)
-unfolding goesOn
-goes-spent q h = rw (le-leb _ _ h)
-
-pub goes-further : (q : Run) → q .steps < q .limit → goesOn q ≡ going q
-unfolding goesOn
-goes-further q h = rw (lt-leb _ _ h)
-
 -- What m boxes of a run come to: it goes on in the runner s at a box after so many steps, or it is
 -- over.
 abbrev pub CameTo : (flow : ℕ → Box) (m : ℕ) (q : Run) (s : Runner) (at end value named steps : ℕ) → Type 0
@@ -172,18 +162,18 @@ keeps hidden state total named =
     cond (eqb state 2) own (cond hidden (record { state = 3; total = 0; named = 0 }) own)
 
 abbrev pub endsWith : Runner → Remains → (value : ℕ) → Runner
-endsWith r k value = runnerOf (chartIn r) noRun (k .state) (k .total) value (k .named)
+endsWith r k value = runnerOf (chartIn r) 0 noRun (k .state) (k .total) value (k .named)
 
 disclosed-runner : (m : Mode) (e : Ending) (steps : ℕ) (r : Runner)
     → endsWith r (keeps (hides m) (stateOf e) steps (namedIn e)) (valueIn e) ≡ resumed (disclosed m (over e steps)) r
 unfolding disclosed resumed endedWith
 disclosed-runner m (valued v) steps r = refl
-disclosed-runner Bare (notice named) steps r = refl
-disclosed-runner Surveillance (notice named) steps r = refl
-disclosed-runner HighWater (notice named) steps r = refl
-disclosed-runner Bare spent steps r = refl
-disclosed-runner Surveillance spent steps r = refl
-disclosed-runner HighWater spent steps r = refl
+disclosed-runner bare (notice named) steps r = refl
+disclosed-runner surveillance (notice named) steps r = refl
+disclosed-runner highWater (notice named) steps r = refl
+disclosed-runner bare spent steps r = refl
+disclosed-runner surveillance spent steps r = refl
+disclosed-runner highWater spent steps r = refl
 
 -- What it tells of an ending is what it tells of what is kept.
 disclosed-reply : (m : Mode) (e : Ending) (steps : ℕ) → outcomes.ended (cond (hides m) 0 steps) ≡ progressReply m (disclosed m (over e steps))

@@ -26,7 +26,7 @@ use Rattle.runner.specs.declared.Runner.{Runner}
 use Rattle.runner.specs.declared.LoadTold.the-variants as load
 use Rattle.runner.specs.declared.AdvanceTold.{AdvanceTold}
 use Rattle.runner.specs.declared.AnswerTold.the-variants as answer
-use Rattle.runner.specs.State.{chartIn, standingOf, endingIn, runnerOf, idle, dropped, ran, resumed}
+use Rattle.runner.specs.State.{chartIn, standingOf, endingIn, underWay, idle, dropped, ran, resumed}
 use Rattle.runner.specs.Outcomes.{outcome, after, progressReply, says, outcomeBy, call}
 use Rattle.runner.specs.Outcomes as outcomes
 use Rattle.runner.specs.Replies.{loadReply, verdictReply, advanceReply, answerReply, writtenReply}
@@ -59,7 +59,7 @@ module _ (mode : ℕ) (inputs : List ℕ) (allowed limit : ℕ) (r : Runner) whe
   -- A run at its start, with these variables, marks and limit.
   abbrev startedWith : (vars marks : List ℕ) → ℕ → Runner
   startedWith vars marks l =
-      runnerOf (chartIn r) (record { vars = vars; marks = marks; counter = 0; mode = mode; at = r .header .first; limit = l; steps = 0 }) 1 0 0 0
+      underWay (chartIn r) mode (record { vars = vars; marks = marks; counter = 0; mode = modeOf mode; at = r .header .first; limit = l; steps = 0 })
 
   pub begin-accepts : (vars marks : List ℕ) (l : ℕ) → Done ≡ check (calls.begin mode inputs allowed limit) (standingOf r)
       → vars ≡ firstVars inputs → marks ≡ firstMarks allowed (r .header .inputs) → l ≡ effective limit

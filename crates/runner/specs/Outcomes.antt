@@ -4,26 +4,23 @@ use Prim.Native.Nat.{ℕ}
 use mathlib.Core.List.{List, []}
 use mathlib.Core.Bool.{cond}
 use Rattle.format.specs.File.{headerOf}
-use Rattle.format.specs.declared.Header.{Header}
 use Rattle.format.specs.declared.Refusal.{Refusal}
 use Rattle.chart.specs.Chart.{Chart, chartOf}
 use Rattle.chart.specs.WriteBack.{fileLength, withFile}
 use Rattle.rewrite.specs.Rewrite.{rewrittenChart}
-use Rattle.marks.specs.Marks.{modeOf, hides}
-use Rattle.marks.specs.declared.Mode.{Mode}
+use Rattle.marks.specs.Marks.{Mode, modeOf, hides}
 use Rattle.machine.specs.Run.{Run, Ending, Progress, going, over}
 use Rattle.begin.specs.Begin.{effective}
+use Rattle.runs.specs.Whole.{Flowchart, startOf}
 use Rattle.calls.specs.Calls.{Call, load, begin, advance, answer, abandon, writeBack, rewrite, check}
 use Rattle.calls.specs.declared.Verdict.{Verdict}
 use Rattle.calls.specs.declared.Verdict.the-variants.{Done, Refused}
 use Rattle.runner.specs.declared.Runner.{Runner}
-use Rattle.runner.specs.State.{chartIn, standingOf, endingIn, underWay, idle, dropped, ran, resumed}
-use Rattle.runner.specs.Whole.{startOf}
+use Rattle.runner.specs.State.{chartIn, flowchartIn, standingOf, endingIn, underWay, idle, dropped, ran, resumed}
 
 -- What a call replies: load "tells k and n"; "Begin and abandon tell only that they were done"; the
--- rewriter "tells only that
--- it was done"; advance "tells "running" or "ended", and the
--- steps so far"; answer "tells the ending: its kind, its steps and the value if there is one", and
+-- rewriter "tells only that it was done"; advance "tells "running" or "ended", and the steps so
+-- far"; answer "tells the ending: its kind, its steps and the value if there is one", and
 -- the set that a notice carries; write back "tells the file's length"; a refusal "gives its number
 -- and a detail".
 pub data Reply : Type 0 where
@@ -54,7 +51,7 @@ outcome reply buffer next = record { told = record { reply = reply; buffer = buf
 pub data Effect : Type 0 where
   runs : (m : ℕ) → Effect
   keeps : Effect
-  begins : (Header → Run) → Effect
+  begins : (mode : ℕ) → (Flowchart → Run) → Effect
   drops : Effect
   replaces : (Chart → Chart) → Effect
 
@@ -62,7 +59,7 @@ pub data Effect : Type 0 where
 -- Abandon "drops the run under way". The rewriter: "The new chart is then held".
 abbrev pub effect : Call → Effect
 effect (load file) = replaces (λ held. chartOf file)
-effect (begin mode inputs allowed limit) = begins (startOf mode inputs allowed (effective limit))
+effect (begin mode inputs allowed limit) = begins mode (λ c. startOf c (modeOf mode) inputs allowed (effective limit))
 effect (advance m) = runs m
 effect answer = keeps
 effect abandon = drops
@@ -74,7 +71,7 @@ effect rewrite = replaces rewrittenChart
 unfoldable pub after : Effect → Runner → Runner
 after (runs m) r = resumed (ran m r) r
 after keeps r = r
-after (begins start) r = underWay (chartIn r) (start (r .header))
+after (begins mode start) r = underWay (chartIn r) mode (start (flowchartIn r))
 after drops r = dropped r
 after (replaces by) r = idle (by (chartIn r))
 

@@ -8,8 +8,9 @@ use lib.ListN.{replicate}
 use Rattle.format.specs.File.{inRange}
 use Rattle.chart.specs.Chart.{Chart}
 use Rattle.decode.specs.Decode.{Box, flow}
-use Rattle.marks.specs.Marks.{modeOf, hides}
-use Rattle.machine.specs.Run.{Run, Ending, valued, notice, spent, Progress, going, over, run, disclosed}
+use Rattle.marks.specs.Marks.{bare, modeOf, hides}
+use Rattle.machine.specs.Run.{Run, Ending, valued, notice, spent, valueIn, namedIn, Progress, going, over, run}
+use Rattle.runs.specs.Whole.{Flowchart, disclosed}
 use Rattle.calls.specs.declared.Standing.{Standing}
 use Rattle.runner.specs.declared.Runner.{Runner}
 
@@ -21,12 +22,27 @@ chartIn r = record { header = r .header; table = r .table }
 abbrev pub isHeld : Runner → Bool
 isHeld r = inRange (r .header)
 
--- The states: 0 no run, 1 a run under way, 2 and above an ended run.
+-- The states: no run, a run under way, and an ended run, by the kind of its ending.
+abbrev pub noRunState : ℕ
+noRunState = 0
+
+abbrev pub runningState : ℕ
+runningState = 1
+
+abbrev pub valueState : ℕ
+valueState = 2
+
+abbrev pub noticeState : ℕ
+noticeState = 3
+
+abbrev pub spentState : ℕ
+spentState = 4
+
 abbrev pub isRunning : Runner → Bool
-isRunning r = eqb (r .state) 1
+isRunning r = eqb (r .state) runningState
 
 abbrev pub isEnded : Runner → Bool
-isEnded r = leb 2 (r .state)
+isEnded r = leb valueState (r .state)
 
 -- The least amount by which a run may be advanced: its limit in high-water mode, and else any.
 abbrev pub leastIn : Runner → ℕ
@@ -36,38 +52,25 @@ leastIn r = cond (hides (modeOf (r .mode))) (r .limit) 0
 abbrev pub standingOf : Runner → Standing
 standingOf r = record { header = r .header; running = isRunning r; least = leastIn r; ended = isEnded r }
 
--- The kinds of ending are states 2, 3 and 4.
 abbrev pub stateOf : Ending → ℕ
-stateOf (valued v) = 2
-stateOf (notice named) = 3
-stateOf spent = 4
-
--- What an ending carries: a value, 0 where there is none; and 02, a: the set of a notice, where
--- "All other endings .. carry 0".
-abbrev pub valueIn : Ending → ℕ
-valueIn (valued v) = v
-valueIn (notice named) = 0
-valueIn spent = 0
-
-abbrev pub namedIn : Ending → ℕ
-namedIn (valued v) = 0
-namedIn (notice named) = named
-namedIn spent = 0
+stateOf (valued v) = valueState
+stateOf (notice named) = noticeState
+stateOf spent = spentState
 
 abbrev pub endingIn : Runner → Ending
-endingIn r = cond (eqb (r .state) 2) (valued (r .value)) (cond (eqb (r .state) 3) (notice (r .named)) spent)
+endingIn r = cond (eqb (r .state) valueState) (valued (r .value)) (cond (eqb (r .state) noticeState) (notice (r .named)) spent)
 
--- The runner of a chart, a run, a state, and of an ended run the steps that it took, its value and
--- the set that it names: every runner is built here.
-abbrev pub runnerOf : Chart → Run → (state total value named : ℕ) → Runner
-runnerOf c q state total value named =
+-- The runner of a chart, the number of a mode and a run in it, a state, and of an ended run the
+-- total of its steps, its value and the set that it names: every runner is built here.
+abbrev pub runnerOf : Chart → (mode : ℕ) → Run → (state total value named : ℕ) → Runner
+runnerOf c mode q state total value named =
     record {
       header = c .header;
       table = c .table;
       vars = q .vars;
       marks = q .marks;
       counter = q .counter;
-      mode = q .mode;
+      mode = mode;
       at = q .at;
       limit = q .limit;
       steps = q .steps;
@@ -80,23 +83,23 @@ runnerOf c q state total value named =
 -- The run in a runner.
 abbrev pub runIn : Runner → Run
 runIn r =
-    record { vars = r .vars; marks = r .marks; counter = r .counter; mode = r .mode; at = r .at; limit = r .limit; steps = r .steps }
+    record { vars = r .vars; marks = r .marks; counter = r .counter; mode = modeOf (r .mode); at = r .at; limit = r .limit; steps = r .steps }
 
--- The runner with another run in the place of its own.
+-- The runner with another run in its mode in the place of its own.
 abbrev pub withRun : Run → Runner → Runner
-withRun q r = runnerOf (chartIn r) q (r .state) (r .total) (r .value) (r .named)
+withRun q r = runnerOf (chartIn r) (r .mode) q (r .state) (r .total) (r .value) (r .named)
 
 -- "When a run ends or is dropped, the variables, their marks and the counter mark become 0", and so
 -- does every other number of the run.
 abbrev pub noRun : Run
-noRun = record { vars = replicate 32 0; marks = replicate 32 0; counter = 0; mode = 0; at = 0; limit = 0; steps = 0 }
+noRun = record { vars = replicate 32 0; marks = replicate 32 0; counter = 0; mode = bare; at = 0; limit = 0; steps = 0 }
 
 -- A runner with a chart and a run under way, and with a chart and nothing else.
-abbrev pub underWay : Chart → Run → Runner
-underWay c q = runnerOf c q 1 0 0 0
+abbrev pub underWay : Chart → (mode : ℕ) → Run → Runner
+underWay c mode q = runnerOf c mode q runningState 0 0 0
 
 abbrev pub idle : Chart → Runner
-idle c = runnerOf c noRun 0 0 0 0
+idle c = runnerOf c 0 noRun noRunState 0 0 0
 
 -- "A new runner holds no chart: its box table is 2,040 zero bytes."
 unfoldable pub newRunner : Runner
@@ -104,16 +107,23 @@ newRunner = idle (record { header = record { edition = 0; inputs = 0; boxes = 0;
 
 -- "When a run ends or is dropped": the chart stays, with the ending or without.
 unfoldable pub endedWith : Ending → (steps : ℕ) → Runner → Runner
-endedWith e steps r = runnerOf (chartIn r) noRun (stateOf e) steps (valueIn e) (namedIn e)
+endedWith e steps r = runnerOf (chartIn r) 0 noRun (stateOf e) steps (valueIn e) (namedIn e)
 
 unfoldable pub dropped : Runner → Runner
 dropped r = idle (chartIn r)
 
--- What m boxes of the run in a runner come to, by the flow of the chart held and as it is kept; and
--- the runner that has come to it.
-abbrev pub flowIn : Runner → ℕ → Box
-flowIn r = flow (r .header .edition) (r .table)
+-- A chart as its runs see it, and the one held.
+abbrev pub flowchartOf : Chart → Flowchart
+flowchartOf c = record { flow = flow (c .header .edition) (c .table); inputs = c .header .inputs; first = c .header .first }
 
+abbrev pub flowchartIn : Runner → Flowchart
+flowchartIn r = flowchartOf (chartIn r)
+
+abbrev pub flowIn : Runner → ℕ → Box
+flowIn r = flowchartIn r .flow
+
+-- What m boxes of the run in a runner come to, as it is disclosed; and the runner that has come to
+-- it.
 abbrev pub ran : ℕ → Runner → Progress
 ran m r = disclosed (modeOf (r .mode)) (run (flowIn r) m (going (runIn r)))
 

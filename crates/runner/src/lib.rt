@@ -13,16 +13,23 @@ ghost use lib.Dec.{eqb, leb};
 ghost use Rattle.format.specs.File.{refusal};
 ghost use Rattle.marks.specs.Marks.{modeOf, hides};
 ghost use Rattle.calls.specs.Calls.{load, begin, advance, answer, abandon, writeBack, rewrite, byVerdict};
-ghost use Rattle.runner.specs.State.{newRunner, dropped};
+ghost use Rattle.runner.specs.State.{runningState, valueState, noticeState, newRunner, dropped};
 ghost use Rattle.runner.specs.Outcomes.{outcome, turnedAway, call};
 ghost use Rattle.runner.specs.Outcomes as outcomes;
 ghost use Rattle.runner.specs.Replies.{loadReply, verdictReply, advanceReply, answerReply, writtenReply};
 
+// The states of a runner: no run, a run under way, and a run that has ended with a value, a notice
+// or spent.
+const NO_RUN: u8 = 0;
+const RUNNING: u8 = 1;
+const VALUE: u8 = 2;
+const NOTICE: u8 = 3;
+const SPENT: u8 = 4;
+
 // The chart that is held: its header and the box table. Of a run under way: the counter mark, the
 // mode, the box at hand, the limit and the steps so far, and last the variables and their marks.
-// `state` is 0 without a run, 1 with one under way, and 2, 3 or 4 where one has ended with a value,
-// a notice or spent; it `took` so many steps, its value is `value`, and its notice names the inputs
-// of the set `named`. What a run stores to is not beside the table, so that the table is not copied
+// `state` is one of the states above; `total` is the steps of an ended run, `value` its value, and
+// `named` the set of the inputs that its notice names. What a run stores to is not beside the table, so that the table is not copied
 // with it.
 pub struct Runner {
     header: Header,
@@ -104,7 +111,7 @@ impl Runner {
             at: 0,
             limit: 0,
             steps: 0,
-            state: 0,
+            state: NO_RUN,
             total: 0,
             value: 0,
             named: 0,
@@ -122,7 +129,7 @@ impl Runner {
         self.at = 0;
         self.limit = 0;
         self.steps = 0;
-        self.state = 0;
+        self.state = NO_RUN;
         self.total = 0;
         self.value = 0;
         self.named = 0;
@@ -133,7 +140,7 @@ impl Runner {
     pub fn load(mut self, file: &[u8]) -> Loaded
         ensures { λ r. ⌜ outcome (loadReply (r .told)) [] (r .runner) ≡ call (load (now (file .entry))) self ⌝ }
     {
-        if self.state == 1 {
+        if self.state == RUNNING {
             let told = LoadTold::Refused(refusal(22));
             return Loaded { told, runner: self };
         }
@@ -175,7 +182,7 @@ impl Runner {
                 self.at = header.first;
                 self.limit = begin::effective(limit) as u16;
                 self.steps = 0;
-                self.state = 1;
+                self.state = RUNNING;
                 self.total = 0;
                 self.value = 0;
                 self.named = 0;
@@ -186,7 +193,7 @@ impl Runner {
     }
 
     // Runs m boxes, or fewer if the run ends, and tells which. `end` is the state that the run
-    // comes to; it stays 1 where the run has not ended.
+    // comes to; it stays RUNNING where the run has not ended.
     pub fn advance(mut self, m: u32) -> Advanced
         ensures { λ r. ⌜ outcome (advanceReply (r .told)) [] (r .runner) ≡ call (advance m) self ⌝ }
     {
@@ -200,7 +207,7 @@ impl Runner {
         let mut at = self.at;
         let mut half = decode::first_half(at);
         let mut steps = self.steps as u32;
-        let mut end: u8 = 1;
+        let mut end: u8 = RUNNING;
         let mut value: u32 = 0;
         let mut named: u16 = 0;
         while 0 < todo {
@@ -236,22 +243,22 @@ impl Runner {
                     half = decode::half_of(next);
                 }
                 Act::Value(v) => {
-                    end = 2;
+                    end = VALUE;
                     value = v;
                     break;
                 }
                 Act::Notice(set) => {
-                    end = 3;
+                    end = NOTICE;
                     named = set;
                     break;
                 }
             }
             if limit <= steps {
-                end = 4;
+                end = SPENT;
                 break;
             }
         }
-        if end == 1 {
+        if end == RUNNING {
             self.at = at;
             self.steps = steps as u16;
         } else {
@@ -276,7 +283,7 @@ impl Runner {
     pub fn abandon(self) -> Changed
         ensures { λ r. ⌜ outcome (verdictReply (r .told)) [] (r .runner) ≡ call abandon self ⌝ }
     {
-        if self.state != 1 {
+        if self.state != RUNNING {
             return Changed {
                 told: calls::refuse(23),
                 runner: self,
@@ -294,20 +301,22 @@ impl Runner {
     {
         let state = self.state;
         let steps = self.total;
-        if state < 2 {
+        if state < VALUE {
             return AnswerTold::Refused(refusal(24));
         }
-        match state {
-            2 => AnswerTold::Value {
+        if state == VALUE {
+            return AnswerTold::Value {
                 value: self.value,
                 steps,
-            },
-            3 => AnswerTold::Notice {
+            };
+        }
+        if state == NOTICE {
+            return AnswerTold::Notice {
                 named: self.named,
                 steps,
-            },
-            _ => AnswerTold::Spent(steps),
+            };
         }
+        AnswerTold::Spent(steps)
     }
 
     // The file of the held chart at the front of a lent buffer. The runner that follows is the one
@@ -346,15 +355,15 @@ impl Runner {
 
 // What the refusals look at of a runner, by its header, state, mode and limit.
 fn standing_of(header: Header, state: u8, mode: u8, limit: u16) -> Standing
-    ensures { λ r. ⌜ r ≡ record { header = header; running = eqb state 1; least = cond (hides (modeOf mode)) limit 0; ended = leb 2 state } ⌝ }
+    ensures { λ r. ⌜ r ≡ record { header = header; running = eqb state runningState; least = cond (hides (modeOf mode)) limit 0; ended = leb valueState state } ⌝ }
 {
     let hidden = marks::hides(marks::mode_of(mode));
     let least = select(hidden, limit as u32, 0);
     Standing {
         header,
-        running: state == 1,
+        running: state == RUNNING,
         least,
-        ended: 2 <= state,
+        ended: VALUE <= state,
     }
 }
 
@@ -375,8 +384,8 @@ fn amount(verdict: Verdict, m: u32) -> u32
     }
 }
 
-// What is kept of an ended run besides its value: its state, the steps that it took, and the set
-// that it names. A value keeps its count; where counts are hidden, nothing else does.
+// What is disclosed of an ended run besides its value: its state, the total of its steps, and the
+// set that it names. A value keeps its count; where counts are hidden, nothing else does.
 struct Remains {
     state: u8,
     total: u32,
@@ -385,14 +394,14 @@ struct Remains {
 
 fn disclose(hidden: bool, state: u8, total: u32, named: u16) -> Remains
     ensures { λ r. ⌜ r ≡
-        (let own : Remains = record { state = state; total = total; named = named } in cond (eqb state 2) own (cond hidden (record { state = 3; total = 0; named = 0 }) own)) ⌝ }
+        (let own : Remains = record { state = state; total = total; named = named } in cond (eqb state valueState) own (cond hidden (record { state = noticeState; total = 0; named = 0 }) own)) ⌝ }
 {
-    if state == 2 {
+    if state == VALUE {
         return Remains { state, total, named };
     }
     if hidden {
         return Remains {
-            state: 3,
+            state: NOTICE,
             total: 0,
             named: 0,
         };
@@ -404,11 +413,11 @@ fn disclose(hidden: bool, state: u8, total: u32, named: u16) -> Remains
 // accepted.
 fn tell(verdict: Verdict, hidden: bool, end: u8, steps: u32) -> AdvanceTold
     ensures { λ r.
-        ⌜ advanceReply r ≡ byVerdict verdict (cond (eqb end 1) (outcomes.running steps) (outcomes.ended (cond hidden 0 steps))) turnedAway ⌝ }
+        ⌜ advanceReply r ≡ byVerdict verdict (cond (eqb end runningState) (outcomes.running steps) (outcomes.ended (cond hidden 0 steps))) turnedAway ⌝ }
 {
     match verdict {
         Verdict::Done => {
-            if end == 1 {
+            if end == RUNNING {
                 return AdvanceTold::Running(steps);
             }
             AdvanceTold::Ended(select(hidden, 0, steps))

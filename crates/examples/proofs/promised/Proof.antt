@@ -1,11 +1,7 @@
 -- `promised` holds the claims of this crate: each by its theorem.
 use Rattle.examples.proofs.Computed.{file-examples, paper-cases, naming-cases, hidden-cases, edition-cases, check-cases, conversion-cases, rewriting-cases, keeping-cases, blocks-exchanged}
-use Rattle.examples.proofs.Refuted.{bare-is-not-secret, another-mode-is-told, another-limit-is-told, bare-answers-more, smaller-limit-answers-less}
-use Rattle.examples.proofs.Refuted.{advances-part-at-the-end, no-load-during-a-run, another-load-is-told, high-water-names-none, surveillance-names-some}
-use Rattle.examples.proofs.Refuted.{high-water-advances-part, high-water-sum-ends-nothing, high-water-counts-no-boxes, surveillance-tells-counts, written-back-is-told, editions-end-apart}
-use Rattle.examples.proofs.Refuted.{rewriting-is-told, rewriting-between-is-told, guarded-may-lose, drawn-do-not-count}
-use Rattle.examples.proofs.Witnesses.{secrecy-is-met, notice-is-told, second-edition-is-met, choice-is-met, counts-are-hidden, advances-are-whole, answering-is-met}
-use Rattle.examples.proofs.Witnesses.{conversion-is-met, rewriting-is-met, rewriting-in-order}
+use Rattle.examples.proofs.Refuted.{bare-is-not-secret, another-mode-is-told, another-limit-is-told, bare-answers-more, smaller-limit-answers-less, advances-part-at-the-end, no-load-during-a-run, another-load-is-told, high-water-names-none, surveillance-names-some, high-water-advances-part, high-water-sum-ends-nothing, high-water-counts-no-boxes, surveillance-tells-counts, written-back-is-told, editions-end-apart, rewriting-is-told, rewriting-between-is-told, guarded-may-lose, drawn-do-not-count}
+use Rattle.examples.proofs.Witnesses.{secrecy-is-met, notice-is-told, second-edition-is-met, choice-is-met, counts-are-hidden, advances-are-whole, answering-is-met, conversion-is-met, rewriting-is-met, rewriting-in-order}
 use Rattle.examples.proofs.promised.Statement.{statement}
 use Rattle.examples.proofs.promised.Tie as tie
 

@@ -1,4 +1,4 @@
--- `store` sets the mark by the numbers, of the mark that its target has.
+-- `store` sets the mark by the masks, of the mark that its target has.
 use borrow.Author.Needs.{needs}
 use Rattle.machine.proofs.Acts.{stores}
 use Rattle.machine.proofs.store.Statement.{statement}

@@ -1,22 +1,22 @@
 -- The loop's invariant: the boxes still to run, from here, come to what the boxes asked for come to
 -- from the start; the runner differs from the one at the start in what boxes store alone, no ending
--- is met, the numbers are those of the mode, the box at hand is found by `half`, and the marks are
+-- is met, the masks are those of the mode, the box at hand is found by `half`, and the marks are
 -- of 16 inputs. Where the arms of a box that does not end the run meet, one law says what it left.
 use mathlib.Core.Path.{_≡_, refl, ap, sym, _∙_, subst}
 use mathlib.Core.Logic.{⊎-elim, inl}
 use Prim.Native.Nat.{_+_, _≤_, _<_, _^_}
 use native.Mathlib.Omega.{arith}
 use borrow.Author.Needs.{needs}
-use Rattle.marks.specs.Marks.{modeOf, masksOf, hides}
+use Rattle.marks.specs.Marks.{modeOf, modeIn, masksOf, hides}
 use Rattle.decode.proofs.Decoded.{Finds, half-finds, first-half-finds}
 use Rattle.machine.specs.Run.{valued, notice, spent, going, goesOn, settle, step, run}
 use Rattle.machine.proofs.Acts.{SixteenInputs}
-use Rattle.machine.proofs.Runs.{run-none}
+use Rattle.machine.proofs.Runs.{run-none, goes-spent, goes-further}
 use Rattle.calls.specs.Calls.{advance, check}
 use Rattle.runner.specs.declared.Runner.{Runner}
 use Rattle.runner.specs.declared.Remains.{Remains}
 use Rattle.runner.specs.State.{runIn, flowIn}
-use Rattle.runner.proofs.Boxes.{seen, Stored, stored-more, acts, stays-sixteen, steps-fit, marks-sixteen, left, goes-spent, goes-further, turned, CameTo, came-over, no-ending, endsWith, advance-came}
+use Rattle.runner.proofs.Boxes.{seen, Stored, stored-more, acts, stays-sixteen, steps-fit, marks-sixteen, left, turned, CameTo, came-over, no-ending, endsWith, advance-came}
 use Rattle.runner.proofs.Runner.advance.Statement.{statement}
 use Rattle.runner.proofs.Runner.advance.Tie as tie
 
@@ -26,13 +26,13 @@ Inv-loop m self₀ verdict limit mode masks hidden todo₀ at₀ half₀ steps�
     × (todo ≤ todo₀)
     × Stored self₀ self
     × (limit ≡ self₀ .limit)
-    × (mode ≡ modeOf (self₀ .mode))
+    × (modeIn mode ≡ modeOf (self₀ .mode))
     × (steps < 2 ^ 16)
     × (end ≡ 1)
     × (value ≡ 0)
     × (named ≡ 0)
     × (limit < 2 ^ 16)
-    × (masks ≡ masksOf mode)
+    × (masks ≡ masksOf (modeIn mode))
     × Finds half at
     × SixteenInputs (self .marks)
 

@@ -1,0 +1,2 @@
+-- Laws of what is disclosed of a run.
+pub mod Disclosed

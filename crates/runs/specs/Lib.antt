@@ -1,0 +1,2 @@
+-- Whole runs, of any flowchart.
+pub mod Whole

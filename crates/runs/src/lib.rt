@@ -1,0 +1,1 @@
+// Whole runs on any flowchart, in specs/ and proofs/; there is no code.
