@@ -66,7 +66,7 @@ after-kept : (x : Effect) (r : Runner) → KeepsChart x ⊥ → chartIn (after x
 unfolding after dropped
 after-kept (runs m) r n = resumed-kept (ran m r) r
 after-kept keeps r n = refl
-after-kept (begins start) r n = refl
+after-kept (begins mode start) r n = refl
 after-kept drops r n = refl
 after-kept (replaces by) r n = absurd n
 
@@ -74,7 +74,7 @@ after-kept (replaces by) r n = absurd n
 if-accepted : (x : Effect) {Refused : Type 0} → (Refused → ⊥) → KeepsChart x Refused → KeepsChart x ⊥
 if-accepted (runs m) f n = tt
 if-accepted keeps f n = tt
-if-accepted (begins start) f n = tt
+if-accepted (begins mode start) f n = tt
 if-accepted drops f n = tt
 if-accepted (replaces by) f n = f n
 

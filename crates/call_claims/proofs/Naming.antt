@@ -26,7 +26,7 @@ use Rattle.call_claims.proofs.Secrecy.{begin-starts, started}
 -- What the runner that has come to something carries.
 resumed-carries : (P : ℕ → Type 0) → P 0 → (p : Progress) (r : Runner) → Carries P p → AllSets P (runIn (resumed p r))
 unfolding resumed endedWith
-resumed-carries P none (going q) r h = h
+resumed-carries P none (going q) r h = record { marks = h .marks; counter = h .counter }
 resumed-carries P none (over e steps) r h = record { marks = λ v. subst P (sym (zeros-at 32 v)) none; counter = none }
 
 -- A property of the set told, which no set has to have, and the set of an ending has.

@@ -127,7 +127,14 @@ resumed-sound : (r : Runner) → r .state ≡ 1 → From (r .header) (r .table) 
     → Carries (InputsOf (r .header)) p
     → Sound (resumed p r)
 unfolding resumed
-resumed-sound r s f u (going q) x y = running-sound (withRun q r) s f (record { held = u .held; mode = u .mode; ranged = x; sets = y; forgot = u .forgot })
+resumed-sound r s f u (going q) x y = running-sound (withRun q r) s f
+    (record {
+      held = u .held;
+      mode = u .mode;
+      ranged = record { at = x .at; below = x .below; limit = x .limit; vars = x .vars; marks = x .marks };
+      sets = record { marks = y .marks; counter = y .counter };
+      forgot = u .forgot;
+    })
 resumed-sound r s f u (over e steps) x y = ended-sound e steps r f (u .held) y
 
 -- An accepted load: the file's header and table.

@@ -3,7 +3,7 @@
 -- ends it and hides how it was lost, so every call keeps low-equal runners so and tells the same
 -- (output consistency); then one induction over the list. Assumes nothing.
 use Prim.Native.Nat.{ℕ, _≤_, _<_}
-use mathlib.Core.Path.{_≡_, refl, ap, sym, _∙_}
+use mathlib.Core.Path.{_≡_, refl, ap, sym, _∙_, subst}
 use mathlib.Core.List.{List, [], _∷_}
 use mathlib.Core.Bool.{true, false≢true}
 use native.Mathlib.Omega.{arith}
@@ -75,15 +75,21 @@ module _ (r : Runner) (w : List ℕ) (s : r .state ≡ 1) {m : Mode} (g : Watche
       enough : leastIn r ≤ k
       enough = advance-enough k (standingOf r) e .1
 
+      in-mode : {m : Mode} → modeOf (r .mode) ≡ m
+          → Close (disclosed m (run (flowIn r) k (going (runIn r)))) (disclosed m (run (flowIn r) k (going (withVars (runIn r) w))))
+          → Close (ran k r) (ran k (otherVars r w))
+      in-mode e c =
+          subst (λ (x : Mode). Close (disclosed x (run (flowIn r) k (going (runIn r)))) (disclosed x (run (flowIn r) k (going (withVars (runIn r) w))))) (sym e) c
+
       by : {m : Mode} → Watched m (modeOf (r .mode)) (r .counter)
           → Low m (run (flowIn r) k (going (runIn r))) (run (flowIn r) k (going (withVars (runIn r) w)))
           → (hides m ≡ true → r .steps < r .limit)
           → Close (ran k r) (ran k (otherVars r w))
-      by (surveyed a) low below = rw a (disclosed-close low (λ z. absurd (false≢true z)))
+      by (surveyed a) low below = in-mode a (disclosed-close low (λ z. absurd (false≢true z)))
       by (unmarked a c) low below =
           let most : r .limit ≤ k = rw a at enough in
           let under = below refl in
-          rw a (disclosed-close low (λ z. (run-ends (flowIn r) k (runIn r) under (omega arith), run-ends (flowIn r) k (withVars (runIn r) w) under (omega arith))))
+          in-mode a (disclosed-close low (λ z. (run-ends (flowIn r) k (runIn r) under (omega arith), run-ends (flowIn r) k (withVars (runIn r) w) under (omega arith))))
 
   says-low : (c : Call) → check c (standingOf r) ≡ Done → says c r ≡ says c (otherVars r w)
   unfolding says

@@ -105,6 +105,7 @@ whole-shorter c long inputs allowed limit v steps e =
     let old = run (flowchartOf c .flow) limit (going start) in
     let new = flowchartOf (rewrittenChart c) .flow in
     let ends = finish-valued old v steps (ap finish (sym (disclosed-all bare refl old)) ∙ e) in
-    let (fewer, is, sum) = shorter (flowchartOf c .flow) new (replacedAt (c .table)) (becomes (c .header .edition) (c .table) long) limit start v steps refl ends in
-    let count : fewer ≡ steps - boxesRun new (replacedAt (c .table)) limit (going start) = omega arith in
-    (omega arith, ap finish (disclosed-all bare refl (run new limit (going start)) ∙ is ∙ ap (over (valued v)) count))
+    let less = shorter (flowchartOf c .flow) new (replacedAt (c .table)) (becomes (c .header .edition) (c .table) long) limit start v steps refl ends in
+    let sum = less .2 in
+    let count : less .0 ≡ steps - boxesRun new (replacedAt (c .table)) limit (going start) = omega arith in
+    (omega arith, ap finish (disclosed-all bare refl (run new limit (going start)) ∙ less .1 ∙ ap (over (valued v)) count))

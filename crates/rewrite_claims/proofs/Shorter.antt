@@ -171,7 +171,10 @@ module _ (f f′ : ℕ → Box) (put : ℕ → Bool) (becomes : (p : ℕ) → Be
   box-saves : (n total k : ℕ) (new old : Progress) → Saves n total k new old → Saves n total (suc k) (onward f′ new) (onward f old)
   unfolding run
   box-saves n total k new old h m e =
-      let (j, count, ahead) = h (suc m) (omega arith) in
+      let here = h (suc m) (omega arith) in
+      let j = here .0 in
+      let count = here .1 in
+      let ahead = here .2 in
       let one = saved new in
       let same : j + suc one ≡ suc (one + j) = omega arith in (
         one + j,
@@ -187,6 +190,9 @@ module _ (f f′ : ℕ → Box) (put : ℕ → Bool) (becomes : (p : ℕ) → Be
       let total = boxesRun f′ put n (going q) in
       let first : Saves n total 0 (going q) (going q) =
       λ m e. (0, ap (λ (i : ℕ). 0 + boxesRun f′ put i (going q)) (omega arith) ∙ zero-add total, level {q = q} is-bare (omega arith)) in
-      let (j, count, ahead) = lift f′ f (Saves n total) (box-saves n total) n (going q) (going q) first 0 (omega arith) in
-      let (steps, is, sum) = ahead-value j v s ahead (ap (run f j) o ∙ over-still f j (valued v) s) in
-      (steps, is, omega arith)
+      let last = lift f′ f (Saves n total) (box-saves n total) n (going q) (going q) first 0 (omega arith) in
+      let j = last .0 in
+      let value = ahead-value j v s (last .2) (ap (run f j) o ∙ over-still f j (valued v) s) in
+      let count = last .1 in
+      let sum = value .2 in
+      (value .0, value .1, omega arith)

@@ -166,7 +166,7 @@ whole-low flow (suc l) q w el es low =
 pub runs-are-secret : RunsAreSecret
 unfolding whole
 runs-are-secret c mode inputs inputs′ allowed limit guards fits fits′ alike =
-    let (m, watch) = guarded-watches guards in
+    let watch = guarded-watches guards .1 in
     let q = startOf c mode inputs allowed limit in
     let w = firstVars inputs′ in
     let low = runs-apart {q = q} w watch (start-agrees c inputs inputs′ allowed fits fits′ alike) in

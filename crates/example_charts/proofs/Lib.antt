@@ -1,0 +1,2 @@
+-- The definitions that the examples compute with.
+pub mod Open

@@ -1,0 +1,2 @@
+-- The tables, by computation.
+pub mod Computed
