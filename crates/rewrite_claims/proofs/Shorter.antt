@@ -112,7 +112,7 @@ module _ (j : ℕ) where
   unfolding settle
   settle-ahead (Store target value mark next) q k is-bare e = goes-ahead (moved q _ _ _ _) (k + 1) is-bare (omega arith)
   settle-ahead (Go next counter) q k is-bare e = goes-ahead (moved q _ _ _ _) (k + 1) is-bare (omega arith)
-  settle-ahead (Value v) q k is-bare e = ended (omega arith)
+  settle-ahead (Value v) q k is-bare e = ended {s = q .steps + 1} {t = k + 1} (omega arith)
   settle-ahead (Notice named) q k is-bare e = lost noticed
 
   -- Where the old run has the value, so does the new one.
@@ -161,7 +161,7 @@ module _ (f f′ : ℕ → Box) (put : ℕ → Bool) (becomes : (p : ℕ) → Be
       by : Becomes f f′ put (q .at) → Ahead (cond (put (q .at)) 1 0 + j) (step f′ q) (run f (cond (put (q .at)) 1 0) (step f (counting q k)))
       by (stays none same) = rw (none, same) (settle-ahead (0 + j) _ q k is-bare (omega arith))
       by (chooses some c) = rw some (copy-ahead j q k is-bare e c)
-  box-ahead j (ended e) = ended (omega arith)
+  box-ahead j (ended {s = s} {t = t} e) = ended {s = s} {t = t} (omega arith)
   box-ahead j {p} (lost l) = lost (run-lost f (suc (saved p)) l)
 
   -- What is left to count, and where the old run is by as many boxes further as were saved.
@@ -183,16 +183,16 @@ module _ (f f′ : ℕ → Box) (put : ℕ → Bool) (becomes : (p : ℕ) → Be
             (subst (Ahead (one + j) (onward f′ new)) (sym (run-add f j (suc one) old)) (box-ahead j ahead)),
       )
 
+  start-saves : (n : ℕ) (q : Run) → q .mode ≡ bare → Saves n (boxesRun f′ put n (going q)) 0 (going q) (going q)
+  unfolding run
+  start-saves n q is-bare m e =
+      let all : m ≡ n = omega arith in
+      (0, ap (λ (i : ℕ). 0 + boxesRun f′ put i (going q)) all ∙ zero-add _, level {q = q} {k = q .steps} is-bare (omega arith))
+
   pub shorter : (n : ℕ) (q : Run) (v s : ℕ) → q .mode ≡ bare → run f n (going q) ≡ over (valued v) s
       → (steps : ℕ) × (run f′ n (going q) ≡ over (valued v) steps) × (s ≡ steps + boxesRun f′ put n (going q))
-  unfolding run
+  unfolding boxesRun
   shorter n q v s is-bare o =
-      let total = boxesRun f′ put n (going q) in
-      let first : Saves n total 0 (going q) (going q) =
-      λ m e. (0, ap (λ (i : ℕ). 0 + boxesRun f′ put i (going q)) (omega arith) ∙ zero-add total, level {q = q} is-bare (omega arith)) in
-      let last = lift f′ f (Saves n total) (box-saves n total) n (going q) (going q) first 0 (omega arith) in
-      let j = last .0 in
-      let value = ahead-value j v s (last .2) (ap (run f j) o ∙ over-still f j (valued v) s) in
-      let count = last .1 in
-      let sum = value .2 in
-      (value .0, value .1, omega arith)
+      let last = lift f′ f (Saves n (boxesRun f′ put n (going q))) (box-saves n _) n (going q) (going q) (start-saves n q is-bare) 0 (omega arith) in
+      let value = ahead-value (last .0) v s (last .2) (ap (run f (last .0)) o ∙ over-still f (last .0) (valued v) s) in
+      (value .0, value .1, omega (arith, last .1, value .2))
