@@ -105,7 +105,7 @@ abbrev pub accepted : (edition k n first : ℕ) → Checked
 accepted edition k n first = Accepted (record { edition = edition; inputs = k; boxes = n; first = first })
 
 abbrev pub refused : ℕ → ℕ → Checked
-refused number detail = Refused (refusal number detail)
+refused n detail = Refused (refusal n detail)
 
 -- A table of so many cases, each of which gives what is expected.
 abbrev pub Table : ℕ → List Case → Type 0
