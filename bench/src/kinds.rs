@@ -1,4 +1,4 @@
-//! What a call tells as three numbers: a kind, as `crates/told/src/kinds.rt` has them, and two
+//! What a call tells as three numbers: a kind, as `crates/encoding/src/kinds.rt` has them, and two
 //! values, 0 where there is none.
 use crate::plain::Told;
 

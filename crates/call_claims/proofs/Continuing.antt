@@ -100,7 +100,7 @@ module _ (r : Runner) (on : r .state ≡ 1) where
   pub ran-over : (n : ℕ) → Over (inside n) → Over (ran n r)
   ran-over n o = disclosed-by Over mode (inside n) o (λ h. record { ending = notice 0; steps = 0; is = refl })
 
-  -- What is kept is what the run has come to inside, but where it is what hiding leaves.
+  -- What is disclosed is what the run has come to inside, but where it is what hiding leaves.
   inside-is : (n : ℕ) (p : Progress) → (over (notice 0) 0 ≡ p → ⊥) → ran n r ≡ p → inside n ≡ p
   inside-is n p other e = disclosed-by (λ (x : Progress). x ≡ p → inside n ≡ p) mode (inside n) (λ d. d) (λ h d. absurd (other d)) e
 

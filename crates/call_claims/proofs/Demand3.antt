@@ -26,7 +26,8 @@ use Rattle.call_claims.proofs.Answering.{list-tells}
 use Rattle.call_claims.proofs.OneChart.{one-chart}
 use Rattle.call_claims.proofs.Secrecy.{begin-permits, begin-starts, started, starts-same, noninterference}
 
--- A surveillance run that is over has the value that the high-water run came to, whatever the boxes.
+-- A surveillance run that is over has the value that the high-water run came to, whatever the
+-- boxes.
 surveyed-value : (c : Flowchart) (inputs : List ℕ) (allowed limit n boxes v steps : ℕ)
     → run (c .flow) boxes (going (startOf c highWater inputs allowed limit)) ≡ over (valued v) steps
     → Over (run (c .flow) n (going (startOf c surveillance inputs allowed limit)))

@@ -1,5 +1,5 @@
--- The claims about high-water runs: what is kept of an ending counts a value alone; and an accepted
--- advance asks for the limit or more, and as many boxes end the run. Assumes nothing.
+-- The claims about high-water runs: what is disclosed of an ending counts a value alone; and an
+-- accepted advance asks for the limit or more, and as many boxes end the run. Assumes nothing.
 use Prim.Native.Nat.{ℕ, _+_}
 use mathlib.Core.Path.{_≡_, refl, ap, sym, _∙_, subst}
 use mathlib.Core.List.{List, []}
@@ -28,7 +28,7 @@ high-mode mode e = rw e
 high-hides : (mode : ℕ) → mode ≡ 2 → hides (modeOf mode) ≡ true
 high-hides mode e = rw (high-mode mode e)
 
--- What is kept where counts are hidden.
+-- What is disclosed where counts are hidden.
 abbrev Hidden : Progress → Type 0
 Hidden (going q) = Unit {0}
 Hidden (over e steps) = CountsValuesOnly (ending e steps)

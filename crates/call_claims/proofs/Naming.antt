@@ -1,6 +1,6 @@
 -- The sets that are told. What a list tells with an ending is what its run is over with, so what a
--- run carries holds of the set that is named: it is of withheld inputs; and it is named by the mode.
--- Assumes nothing.
+-- run carries holds of the set that is named: it is of withheld inputs; and it is named by the
+-- mode. Assumes nothing.
 use Prim.Native.Nat.{ℕ}
 use mathlib.Core.Path.{_≡_, refl, ap, sym, subst}
 use mathlib.Core.List.{List, List·Memᴰ}

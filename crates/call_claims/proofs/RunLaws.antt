@@ -213,8 +213,8 @@ tells-whole-run r mode inputs allowed limit a cs q ends =
     let all = whole-is r mode inputs allowed limit a (last .boxes) (o .ending) (o .steps) (o .is) in
     ap (λ (x : Runner). call answer x .told) (last .is ∙ ap (λ (p : Progress). resumed p s) (o .is)) ∙ over-tells s refl (o .ending) (o .steps) ∙ rw all
 
--- The steps of what a run comes to stay within its limit, and so do those told of what is kept of
--- it.
+-- The steps of what a run comes to stay within its limit, and so do those told of what is disclosed
+-- of it.
 stepsOf : Progress → ℕ
 stepsOf (going q) = q .steps
 stepsOf (over e steps) = steps

@@ -1,7 +1,7 @@
--- Unwinding of the calls for the modes that guard, from that of runs. Two runners are low-equal when
--- they are the same, or both have runs under way that are low-equal. An advance of a high-water run
--- ends it and hides how it was lost, so every call keeps low-equal runners so and tells the same
--- (output consistency); then one induction over the list. Assumes nothing.
+-- Unwinding of the calls for the modes that guard, from that of runs. Two runners are low-equal
+-- when they are the same, or both have runs under way that are low-equal. An advance of a
+-- high-water run ends it and hides how it was lost, so every call keeps low-equal runners so and
+-- tells the same (output consistency); then one induction over the list. Assumes nothing.
 use Prim.Native.Nat.{ℕ, _≤_, _<_}
 use mathlib.Core.Path.{_≡_, refl, ap, sym, _∙_, subst}
 use mathlib.Core.List.{List, [], _∷_}
@@ -27,8 +27,8 @@ use Rattle.runner.specs.Outcomes.{Reply, Outcome, Effect, runs, keeps, begins, 
 use Rattle.call_claims.specs.Lists.{tells}
 use Rattle.call_claims.proofs.Accepting.{no-answer, runs-accepted}
 
--- What is disclosed of low-equal runs, where one that hides its counts is over: the same, or two runs
--- apart under surveillance.
+-- What is disclosed of low-equal runs, where one that hides its counts is over: the same, or two
+-- runs apart under surveillance.
 data Close : Progress → Progress → Type 0 where
   close : {p : Progress} → Close p p
   still-apart : {q : Run} (w : List ℕ) → q .mode ≡ surveillance → Agree (q .marks) (q .vars) w → Close (going q) (going (withVars q w))

@@ -1,5 +1,5 @@
-// The kinds of what is told: the numbers that `encode` of specs/Told.antt has. In parentheses are
-// the two values of each; one that is not named is 0.
+// The kinds of what is told: the numbers that `encode` of specs/Encoding.antt has. In parentheses
+// are the two values of each; one that is not named is 0.
 pub const DONE: u32 = 0;
 
 // (inputs, boxes)

@@ -23,11 +23,10 @@ use Rattle.call_claims.specs.Lists.{tells}
 
 -- A file and the answer of load's input checks; a file that is loaded and written back to itself,
 -- or rewritten between and written back to another; a file and a buffer, what the converter tells
--- and the buffer after it; a chart's file, what begin
--- is given, and the ending with its steps, of the chart or of the rewritten one; an
--- operation of an edition, its operands and its result; what a block's check adds, the block, and
--- its check; or two numbers, whose bits are the inputs to keep and to take, the old set, the sets
--- read, and the new set.
+-- and the buffer after it; a chart's file, what begin is given, and the ending with its steps, of
+-- the chart or of the rewritten one; an operation of an edition, its operands and its result; what
+-- a block's check adds, the block, and its check; or two masks, of the inputs to keep and of those
+-- to take, the old set, the sets read, and the new set.
 pub data Case : Type 0 where
   answers : (file : List ℕ) → Checked → Case
   returns : (file : List ℕ) → Case

@@ -1,6 +1,6 @@
--- The cases that document 01 marks (P), in one table: runs from files, through the calls; results
--- of operations; and E's checks. Then the inputs that notices name (02, a), and what high-water
--- runs tell (02, b).
+-- The cases with (P) in document 01, in one table: runs from files, through the calls; results of
+-- operations; and E's checks. Then the inputs that notices name (02, a), and what high-water runs
+-- tell (02, b).
 use Prim.Native.Nat.{ℕ, _^_, _<_}
 use mathlib.Core.List.{List, [], _∷_}
 use lib.ListN.{replicate}
@@ -41,7 +41,7 @@ paperCases x =
     ∷ operates 1 9 4294967295 0 32
     ∷ []
 
--- All that 01 marks (P): the eighteen cases, whatever 32-bit number is the input of D and of E.
+-- The eighteen cases with (P) in 01, whatever 32-bit number is the input of D and of E.
 abbrev pub PaperCases : Type 0
 PaperCases = (x : ℕ) → x < 2 ^ 32 → Table 18 (paperCases x)
 

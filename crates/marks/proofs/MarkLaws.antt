@@ -1,8 +1,8 @@
 -- Laws of the marks: a union is no mark exactly where each of its parts is none, `marked` tells
 -- which mark is one, and a rule by the mode has what its entries have; and the arithmetic that sets
--- a mark is the rule of its mode. mode-one; or-none, or-zeros; union-none; marked-none, none-marked,
--- marked-or; by-mode, by-map; set-surveillance, set-high-water, set-by-mode; set-sixteen. Assumes
--- nothing.
+-- a mark is the rule of its mode. mode-one; or-none, or-zeros; union-none; marked-none,
+-- none-marked, marked-or; by-mode, by-map; set-surveillance, set-high-water, set-by-mode;
+-- set-sixteen. Assumes nothing.
 use Prim.Native.Nat.{ℕ, _^_, _<_}
 use mathlib.Core.Path.{_≡_, refl, sym, _∙_}
 use mathlib.Core.List.{List, _∷_}

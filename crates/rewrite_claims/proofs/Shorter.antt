@@ -1,8 +1,8 @@
 -- Two flows, of which the new one has choices in the place of decisions between two copies, and
 -- their bare runs: where the old run comes to a value, so does the new one, in as many fewer steps
--- as choices put in were run. The relation: the old run, by as many boxes further as the new one has
--- saved, is at the same box with the same variables and marks, and has counted as many more. A box
--- that stays does the same to both; where a choice was put in, the old run takes two boxes, the
+-- as choices put in were run. The relation: the old run, by as many boxes further as the new one
+-- has saved, is at the same box with the same variables and marks, and has counted as many more. A
+-- box that stays does the same to both; where a choice was put in, the old run takes two boxes, the
 -- decision and a copy, and the new one takes one. The new run has never counted more than the old
 -- one, so it goes on where that does. Assumes nothing.
 use Prim.Native.Nat.{ℕ, zero, suc, _+_, _%_}

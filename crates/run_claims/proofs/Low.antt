@@ -1,7 +1,7 @@
 -- Unwinding of runs. Two are low-equal when they are the same; or both are under way at one box and
--- differ only in variables that are marked; or, with the high-water mark, both can tell no value any
--- more. A box keeps that (step consistency), so any number of boxes do; and low-equal runs that have
--- reached their limit finish alike. Assumes nothing.
+-- differ only in variables that are marked; or, with the high-water mark, both can tell no value
+-- any more. A box keeps that (step consistency), so any number of boxes do; and low-equal runs that
+-- have reached their limit finish alike. Assumes nothing.
 use Prim.Native.Nat.{ℕ, zero, suc, _%_}
 use mathlib.Core.Path.{_≡_, refl, ap, sym, _∙_, subst}
 use mathlib.Core.List.{List, [], _∷_}
@@ -129,8 +129,8 @@ onward-low flow (both-lost a b) = both-lost (onward-lost flow a) (onward-lost fl
 pub run-low : (flow : ℕ → Box) (n : ℕ) {m : Mode} {p p′ : Progress} → Low m p p′ → Low m (run flow n p) (run flow n p′)
 run-low flow n {m} {p} {p′} h = lift flow flow (λ k. Low m) (λ k x y. onward-low flow) n p p′ h
 
--- Where counts are hidden and both are over, all that was lost is hidden; else low-equal runs finish
--- alike.
+-- Where counts are hidden and both are over, all that was lost is hidden; else low-equal runs
+-- finish alike.
 low-finish : {m : Mode} {p p′ : Progress} → Low m p p′ → (hides m ≡ true → Over p × Over p′) → finish (disclosed m p) ≡ finish (disclosed m p′)
 unfolding disclosed finish
 low-finish same-run o = refl

@@ -67,7 +67,7 @@ SetsAreUnions =
 
 -- 02, e: "for every such number, that it gives the union of the sets read and the kept part of the
 -- old set, and nothing else". Bit by bit: input j is in the new set exactly if it is in a set read,
--- or in the old set and in the number; and so by any two numbers, of which the other says what is
+-- or in the old set and in the number; and so by any two masks, of which the other says what is
 -- taken of the sets read.
 abbrev pub UnionAndKept : Type 0
 UnionAndKept =
@@ -91,7 +91,7 @@ OneArithmetic =
     → (setMark 0 before (union read) ≡ targetMark surveillance before (union read))
     × (before < 2 ^ 16 → setMark 65535 before (union read) ≡ targetMark highWater before (union read))
 
--- By the numbers of its mode the arithmetic is the rule of every mode, bare too, on sets of 16
+-- By the masks of its mode the arithmetic is the rule of every mode, bare too, on sets of 16
 -- inputs.
 abbrev pub SetAsRuled : Type 0
 SetAsRuled =

@@ -148,7 +148,7 @@ not-under-way spent = refl
 going-once : {q q′ : Run} → going q ≡ going q′ → q ≡ q′
 going-once e = cc
 
--- The runner that advance hands back: at a box of the run, or with what is kept of the ending.
+-- The runner that advance hands back: at a box of the run, or with what is disclosed of the ending.
 abbrev pub standsAt : Runner → (at steps : ℕ) → Runner
 standsAt s at steps = withRun (seen s at steps) s
 
@@ -175,7 +175,7 @@ disclosed-runner bare spent steps r = refl
 disclosed-runner surveillance spent steps r = refl
 disclosed-runner highWater spent steps r = refl
 
--- What it tells of an ending is what it tells of what is kept.
+-- What it tells of an ending is what it tells of what is disclosed.
 disclosed-reply : (m : Mode) (e : Ending) (steps : ℕ) → outcomes.ended (cond (hides m) 0 steps) ≡ progressReply m (disclosed m (over e steps))
 unfolding progressReply
 disclosed-reply m e steps =

@@ -29,8 +29,8 @@ const SPENT: u8 = 4;
 // The chart that is held: its header and the box table. Of a run under way: the counter mark, the
 // mode, the box at hand, the limit and the steps so far, and last the variables and their marks.
 // `state` is one of the states above; `total` is the steps of an ended run, `value` its value, and
-// `named` the set of the inputs that its notice names. What a run stores to is not beside the table, so that the table is not copied
-// with it.
+// `named` the set of the inputs that its notice names. What a run stores to is not beside the
+// table, so that the table is not copied with it.
 pub struct Runner {
     header: Header,
     table: [u8; 2040],

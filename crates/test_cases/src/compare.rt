@@ -1,5 +1,5 @@
 // What the two sides tell, compared, and the charts that they hold. The model says the numbers of
-// `told` by itself.
+// `encoding` by itself.
 use runner::Runner;
 use test_second::Model;
 use encoding::Encoded;

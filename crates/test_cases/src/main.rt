@@ -1,8 +1,7 @@
-// Runs the cases of document 01 that are not marked (P), and cases of document 02, which standard
-// input has, and random lists of calls, on the runner and on the second interpreter; and charts
-// beside their converted ones and beside their rewritten ones, on two runners. It stops at the
-// first difference, and else says what was reached. Its functions have no equations: what it prints
-// is compared.
+// Runs the cases of document 01 without (P), and cases of document 02, which standard input has,
+// and random lists of calls, on the runner and on the second interpreter; and charts beside their
+// converted ones and beside their rewritten ones, on two runners. It stops at the first difference,
+// and else says what was reached. Its functions have no equations: what it prints is compared.
 mod alike;
 mod beside;
 mod commands;

@@ -19,7 +19,7 @@ use encoding::kinds;
 ghost use Prim.Native.Nat.{min};
 ghost use mathlib.Core.Path.{_≡_};
 
-// Told where a kind is that of no call. No reply has it: the kinds of `told` are below.
+// Told where a kind is that of no call. No reply has it: the kinds of `encoding` are below.
 const NO_CALL: u32 = 16;
 
 // After a call: the runner, what was told, and a sum over the bytes of a lent buffer or a returned
@@ -169,8 +169,8 @@ fn put(told: &mut [u32], i: usize, made: Encoded, sum: u32) {
 }
 
 // Makes the calls of a list, on a new runner, and answers how many there are. Each tells four
-// numbers: the three of `told`, and the sum; calls past the room for them are made as well. Numbers
-// that are too few for one more call are not read.
+// numbers: the three of `encoding`, and the sum; calls past the room for them are made as well.
+// Numbers that are too few for one more call are not read.
 #[no_mangle]
 pub extern "C" fn flow_script(
     files: &[u8],

@@ -27,10 +27,10 @@ use machine::withheld;
 use rules::judged;
 use rules::size_of;
 
-// What a call tells. Kinds: 0 done; 1 chart (k, n); 2 running, 3 ended, 6 spent (steps);
-// 4 value (value, steps); 5 notice (steps, set), the set of the inputs named, bit j for input j;
-// 7 refused (number, detail); 8 written (length). An unused field is 0. They are said here again
-// because this crate was written apart from `told`, and is compared with it.
+// What a call tells. Kinds: 0 done; 1 chart (k, n); 2 running, 3 ended, 6 spent (steps); 4 value
+// (value, steps); 5 notice (steps, set), the set of the inputs named, bit j for input j; 7 refused
+// (number, detail); 8 written (length). An unused field is 0. They are said here again because this
+// crate was written apart from `encoding`, and is compared with it.
 pub struct Told {
     pub kind: u32,
     pub first: u32,

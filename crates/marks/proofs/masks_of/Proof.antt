@@ -1,4 +1,4 @@
--- Each number is what `by_mode` picks, so the struct is that of the mode.
+-- Each mask is what `by_mode` picks, so the struct is that of the mode.
 use borrow.Author.Needs.{needs}
 use Rattle.marks.proofs.masks_of.Statement.{statement}
 use Rattle.marks.proofs.masks_of.Tie as tie

@@ -1,5 +1,4 @@
--- `test_second::kept` is safe and ends. The measure is how many places are left.
--- Assumes nothing.
+-- `test_second::padded` is safe and ends. The measure is how many places are left. Assumes nothing.
 use Prim.Native.Nat.{_-_}
 use borrow.Author.Needs.{needs}
 use Rattle.test_second.proofs.padded.Statement.{statement}
