@@ -20,7 +20,7 @@ use borrow.Author.Tests.{le-leb, lt-leb}
 use Rattle.decode.specs.Decode.{boxFrom, boxAt, Box, meaning}
 use Rattle.decode.proofs.Decoded.{Finds}
 use Rattle.decode.specs.declared.FlowBox.{FlowBox}
-use Rattle.format.specs.declared.Refusal.{Refusal}
+use Rattle.block.specs.declared.Refusal.{Refusal}
 use Rattle.marks.specs.Marks.{modeOf, masksOf, setBy, hides}
 use Rattle.marks.specs.declared.Masks.{Masks}
 use Rattle.marks.specs.declared.Mode.{Mode}

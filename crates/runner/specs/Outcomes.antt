@@ -5,7 +5,7 @@ use mathlib.Core.List.{List, []}
 use mathlib.Core.Bool.{cond}
 use Rattle.format.specs.File.{headerOf}
 use Rattle.format.specs.declared.Header.{Header}
-use Rattle.format.specs.declared.Refusal.{Refusal}
+use Rattle.block.specs.declared.Refusal.{Refusal}
 use Rattle.chart.specs.Chart.{Chart, chartOf}
 use Rattle.chart.specs.WriteBack.{fileLength, withFile}
 use Rattle.rewrite.specs.Rewrite.{rewrittenChart}
