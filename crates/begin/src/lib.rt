@@ -1,6 +1,6 @@
 // What a run begins with: the limit, the variables and their marks.
 ghost use mathlib.Core.Path.{_≡_};
-ghost use Prim.Native.Nat.{_<_, min};
+ghost use Prim.Native.Nat.{_<_};
 ghost use Rattle.begin.specs.Begin.{effective, withheldMark, firstVars, firstMarks};
 
 // The limit that 0 means.
@@ -13,20 +13,11 @@ pub fn effective(limit: u32) -> u32
     if limit == 0 { LIMIT_FOR_NONE } else { limit }
 }
 
-fn at_most(most: usize, n: usize) -> usize
-    ensures { λ r. ⌜ r ≡ min most n ⌝ }
-{
-    if n < most {
-        return n;
-    }
-    most
-}
-
 // The variables at the start of a run: the inputs, at most 32 of them, then 0.
 pub fn first_vars(inputs: &[u32]) -> [u32; 32]
     ensures { λ r. ⌜ r ≡ firstVars (now (inputs .entry)) ⌝ }
 {
-    let end = at_most(32, inputs.len());
+    let end = widen::lesser(32, inputs.len());
     let mut vars = [0u32; 32];
     let mut j: usize = 0;
     while j < end {
@@ -53,7 +44,7 @@ fn withheld_mark(allowed: u32, j: usize) -> u16
 pub fn first_marks(allowed: u32, k: u8) -> [u16; 32]
     ensures { λ r. ⌜ r ≡ firstMarks allowed k ⌝ }
 {
-    let end = at_most(16, widen::to_usize(k));
+    let end = widen::lesser(16, widen::to_usize(k));
     let mut marks = [0u16; 32];
     let mut j: usize = 0;
     while j < end {

@@ -9,7 +9,7 @@ use mathlib.Core.Bool.{true, false, cond, false≢true}
 use native.Mathlib.Omega.{arith}
 use lib.Dec.{ltb}
 use borrow.Author.Tests.{lt-ltb, le-ltb, ltb-false}
-use Rattle.format.specs.File.{refusal}
+use Rattle.block.specs.Refusing.{refusal}
 use Rattle.marks.specs.Marks.{Mode, modeOf, hides}
 use Rattle.machine.specs.Run.{Run, Ending, valued, notice, spent, Progress, going, over, run}
 use Rattle.runs.specs.Whole.{disclosed}

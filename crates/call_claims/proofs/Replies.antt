@@ -2,8 +2,8 @@
 -- nothing.
 use Prim.Native.Nat.{ℕ}
 use mathlib.Core.Path.{_≡_, refl, ap, _∙_}
-use Rattle.format.specs.File.{refusal}
-use Rattle.format.specs.declared.Refusal.{Refusal}
+use Rattle.block.specs.Refusing.{refusal}
+use Rattle.block.specs.declared.Refusal.{Refusal}
 use Rattle.chart.specs.declared.Written.the-variants as written
 use Rattle.calls.specs.declared.Verdict.the-variants as verdict
 use Rattle.runner.specs.declared.LoadTold.the-variants as load

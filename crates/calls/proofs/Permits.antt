@@ -8,9 +8,9 @@ use native.Mathlib.Omega.{arith}
 use lib.Dec.{eqb, ltb}
 use lib.ListN.{length}
 use borrow.Author.Tests.{leb-true, ltb-false, eqb-true, not-false}
+use Rattle.block.specs.declared.Refusal.{Refusal}
 use Rattle.format.specs.File.{inRange}
 use Rattle.format.specs.declared.Header.{Header}
-use Rattle.format.specs.declared.Refusal.{Refusal}
 use Rattle.chart.specs.WriteBack.{fileLength, hasRoom}
 use Rattle.calls.specs.Calls.{begin, advance, writeBack, rewrite, refuseIf, check}
 use Rattle.calls.specs.declared.Standing.{Standing}

@@ -6,8 +6,8 @@ use mathlib.Core.List.{List}
 use mathlib.Core.Bool.{Bool, true, false, not}
 use lib.ListN.{length}
 use borrow.Author.Tests.{lt-ltb, le-ltb, lt-leb, le-leb, eq-eqb, ne-eqb, not-false}
+use Rattle.block.specs.declared.Refusal.{Refusal}
 use Rattle.format.specs.File.{inRange}
-use Rattle.format.specs.declared.Refusal.{Refusal}
 use Rattle.chart.specs.WriteBack.{fileLength}
 use Rattle.calls.specs.Calls.{begin, advance, writeBack, rewrite, refuse, atRest, check}
 use Rattle.calls.specs.declared.Standing.{Standing}

@@ -2,12 +2,13 @@
 -- documents' order.
 use Prim.Native.Nat.{ℕ, _/_, _^_}
 use mathlib.Core.List.{List}
-use mathlib.Core.Bool.{Bool, cond, not}
+use mathlib.Core.Bool.{Bool, not}
 use lib.Dec.{eqb, ltb}
 use lib.ListN.{length}
-use Rattle.format.specs.File.{inRange, refusal, checkFile}
+use Rattle.block.specs.Refusing.{refusal, refuseInto}
+use Rattle.block.specs.declared.Refusal.{Refusal}
+use Rattle.format.specs.File.{inRange, checkFile}
 use Rattle.format.specs.declared.Header.{Header}
-use Rattle.format.specs.declared.Refusal.{Refusal}
 use Rattle.format.specs.declared.Checked.{Checked}
 use Rattle.format.specs.declared.Checked.the-variants as checked
 use Rattle.chart.specs.WriteBack.{hasRoom}
@@ -30,8 +31,8 @@ pub data Call : Type 0 where
 abbrev pub refuse : ℕ → Verdict
 refuse number = Refused (refusal number 0)
 
-abbrev pub refuseIf : Bool → ℕ → Verdict → Verdict
-refuseIf broken number otherwise = cond broken (refuse number) otherwise
+abbrev pub refuseIf : (broken : Bool) (number : ℕ) → Verdict → Verdict
+refuseIf broken number otherwise = refuseInto Refused broken number 0 otherwise
 
 -- A value by a verdict: of a call that is done, or of a refusal.
 abbrev pub byVerdict : {A : Type 0} → Verdict → A → (Refusal → A) → A

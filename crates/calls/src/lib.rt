@@ -1,9 +1,9 @@
 // What refuses a begin, an advance, a write back and a rewriting, in order. The refusals of the
 // other calls are one test each, and load's file has its own checks.
+use block::Refusal;
 use format::Header;
-use format::Refusal;
 ghost use mathlib.Core.Path.{_≡_};
-ghost use Rattle.format.specs.File.{refusal};
+ghost use Rattle.block.specs.Refusing.{refusal};
 ghost use Rattle.calls.specs.Calls.{begin, advance, writeBack, rewrite, atRest, check};
 
 // Done, or refused.
@@ -25,7 +25,7 @@ pub struct Standing {
 pub fn refuse(number: u32) -> Verdict
     ensures { λ r. ⌜ r ≡ Verdict.Refused (refusal number 0) ⌝ }
 {
-    Verdict::Refused(Refusal { number, detail: 0 })
+    Verdict::Refused(Refusal::new(number, 0))
 }
 
 // What a begin and a rewriting ask first: a chart, and no run under way.

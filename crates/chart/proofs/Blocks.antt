@@ -1,16 +1,17 @@
 -- Laws of the blocks of a chart's file: their lengths, what the block writer leaves, and block 0
 -- among them.
 -- length-body, blocks-sized; sealed-part; body-first, body-later, sealed-is. Assumes nothing.
-use Prim.Native.Nat.{ℕ, zero, suc, _*_, _-_, _/_, _%_, _≤_}
-use mathlib.Core.Path.{_≡_, refl, ap, sym, _∙_}
-use mathlib.Core.List.{List, [], _∷_, _++_, append-assoc}
+use Prim.Native.Nat.{ℕ, zero, suc, _+_, _*_, _-_, _≤_}
+use mathlib.Core.Path.{_≡_, refl, ap, ap₂, sym, _∙_}
+use mathlib.Core.List.{List, _++_}
 use native.Mathlib.Omega.{arith}
-use lib.ListN.{length, getD, drop, set, length-append}
-use lib.Seq.{drop-cons, set-at, append-snoc}
+use lib.ListN.{length, drop, length-append, length-drop}
+use lib.Seq.{take-at, drop-drop, drop-append-add}
 use Rattle.boxes.specs.Bytes.{part}
-use Rattle.format.specs.Block.{addend, checksum, seal}
+use Rattle.block.specs.Block.{sealed, seal}
+use Rattle.block.proofs.Seals.{sealed-block}
+use Rattle.format.specs.File.{addend}
 use Rattle.format.specs.declared.Header.{Header}
-use Rattle.format.proofs.Sums.{check-small}
 use Rattle.chart.specs.Chart.{headerBody, bodyOf, sealedBlock}
 use Rattle.chart.proofs.Lists.{length-part}
 use Rattle.chart.proofs.Joined.{Sized}
@@ -28,25 +29,15 @@ length-body h table (suc j) l q = length-part table (510 * j) 510 (omega arith)
 pub blocks-sized : (h : Header) (table : List ℕ) (count : ℕ) → length table ≡ 2040 → count ≤ 5 → Sized (sealedBlock h table) 512 count
 blocks-sized h table count l q i p = length-seal (addend (h .edition) i) _ (length-body h table i l (omega arith))
 
-two : (d : List ℕ) → 512 ≤ length d → drop 510 d ≡ getD d 510 0 ∷ getD d 511 0 ∷ drop 512 d
-two d l = drop-cons d 510 0 (omega arith) ∙ ap (λ (t : List ℕ). getD d 510 0 ∷ t) (drop-cons d 511 0 (omega arith))
-
--- The body at the front of a part, then the two bytes of its check.
-pub sealed-part : (added : ℕ) (body d e : List ℕ) (r : ℕ) → length body ≡ 510 → 512 ≤ length d → e ≡ body ++ drop 510 d → r ≡ checksum added body
-    → set (set e 510 (r % 256)) 511 (r / 256 % 256) ≡ seal added body ++ drop 512 d
-unfolding seal
-sealed-part added body d e r lb ld ee er =
-    let low = checksum added body % 256 in
-    let high = checksum added body / 256 in
-    let front : e ≡ body ++ getD d 510 0 ∷ getD d 511 0 ∷ drop 512 d = ee ∙ ap (λ (t : List ℕ). body ++ t) (two d ld) in
-    let highs : r / 256 % 256 ≡ high = omega (arith, check-small added body) in
-    let lows : r % 256 ≡ low = ap (λ (x : ℕ). x % 256) er in
-    let len : length (body ++ (low ∷ [])) ≡ 511 = length-append body (low ∷ []) ∙ omega arith in
-    rw (front, highs, lows)
-    (ap (λ (t : List ℕ). set t 511 high) (set-at body (getD d 510 0) (getD d 511 0 ∷ drop 512 d) low 510 lb ∙ sym (append-snoc body low (getD d 511 0 ∷ drop 512 d)))
-    ∙ set-at (body ++ (low ∷ [])) (getD d 511 0) (drop 512 d) high 511 len
-    ∙ append-snoc body low (high ∷ drop 512 d)
-    ∙ sym (append-assoc body (low ∷ high ∷ []) (drop 512 d)))
+-- The body at the front of a part, which is then sealed.
+pub sealed-part : (added : ℕ) (body d e : List ℕ) → length body ≡ 510 → 512 ≤ length d → e ≡ body ++ drop 510 d → sealed added e ≡ seal added body ++ drop 512 d
+sealed-part added body d e lb ld ee =
+    let rest : List ℕ = drop 510 d in
+    let two : 512 ≡ length body + 2 = omega arith in
+    let past : drop 512 (body ++ rest) ≡ drop 512 d = ap (λ (n : ℕ). drop n (body ++ rest)) two ∙ drop-append-add body rest 2 ∙ drop-drop 2 510 d in
+    ap (sealed added) ee
+    ∙ sealed-block added (body ++ rest) (omega (arith, length-append body rest, length-drop 510 d))
+    ∙ ap₂ (λ (p : List ℕ) (q : List ℕ). seal added p ++ q) (take-at body rest 510 lb) past
 
 module _ (h : Header) (table : List ℕ) (j : ℕ) where
   pub body-first : j ≡ 0 → headerBody h ≡ bodyOf h table j

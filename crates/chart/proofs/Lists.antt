@@ -1,24 +1,17 @@
 -- Laws on lists: the length of a part, a part of a part, zeros past a list.
 -- length-part, part-part; part-zeros. Assumes nothing.
 use Prim.Native.Nat.{ℕ, zero, suc, _+_, _-_, _≤_}
-use mathlib.Core.Path.{_≡_, refl, ap, sym, _∙_}
+use mathlib.Core.Path.{_≡_, refl, ap, _∙_}
 use mathlib.Core.Bool.{true}
-use mathlib.Core.List.{List, [], _∷_, _++_}
-use native.Mathlib.Nat.{sub-zero, zero-sub, suc-sub-suc}
+use mathlib.Core.List.{List, _++_}
 use native.Mathlib.Omega.{arith}
 use lib.ListN.{length, take, drop, replicate, length-take, length-drop}
-use lib.Seq.{take-nil, take-take, drop-drop, drop-append-add}
-use Rattle.lists.proofs.Parts.{drop-replicate}
+use lib.Seq.{take-take, drop-drop, drop-append-add}
+use Rattle.lists.proofs.Parts.{drop-take, drop-replicate}
 use Rattle.boxes.specs.Bytes.{part, allZero}
 
 pub length-part : (f : List ℕ) (a size : ℕ) → a + size ≤ length f → length (part f a size) ≡ size
 length-part f a size h = simp (length-take, length-drop) (omega arith)
-
-drop-take : (b n : ℕ) (l : List ℕ) → drop b (take n l) ≡ take (n - b) (drop b l)
-drop-take zero n l = ap (λ (m : ℕ). take m l) (sym (sub-zero n))
-drop-take (suc b) zero l = ap (λ (m : ℕ). take m (drop (suc b) l)) (sym (zero-sub (suc b)))
-drop-take (suc b) (suc n) [] = sym (take-nil (suc n - suc b))
-drop-take (suc b) (suc n) (x ∷ l) = drop-take b n l ∙ ap (λ (m : ℕ). take m (drop b l)) (sym (suc-sub-suc n b))
 
 pub part-part : (f : List ℕ) (a n b m : ℕ) → b + m ≤ n → part (part f a n) b m ≡ part f (a + b) m
 part-part f a n b m h =

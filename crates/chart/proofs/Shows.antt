@@ -5,9 +5,9 @@ use mathlib.Core.List.{List}
 use native.Mathlib.Omega.{arith}
 use lib.ListN.{length}
 use borrow.Author.Tests.{lt-ltb, le-ltb}
+use Rattle.block.specs.declared.Refusal.{Refusal}
 use Rattle.format.specs.File.{placeStart, checkFile}
 use Rattle.format.specs.declared.Header.{Header}
-use Rattle.format.specs.declared.Refusal.{Refusal}
 use Rattle.format.specs.declared.Checked.the-variants.{Accepted, Refused}
 use Rattle.format.proofs.Passes.{passes}
 use Rattle.chart.specs.ShowBox.{shownBy, showBox}

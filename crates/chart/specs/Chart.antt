@@ -4,8 +4,8 @@ use Prim.Native.Nat.{ℕ, zero, suc, _+_, _*_, _-_, _/_, min}
 use mathlib.Core.List.{List, [], _∷_, _++_}
 use lib.ListN.{length, replicate}
 use Rattle.boxes.specs.Bytes.{part}
-use Rattle.format.specs.Block.{addend, seal}
-use Rattle.format.specs.File.{headerOf, blocksFor}
+use Rattle.block.specs.Block.{seal}
+use Rattle.format.specs.File.{headerOf, blocksFor, addend}
 use Rattle.format.specs.declared.Header.{Header}
 
 -- piece 0, piece 1, .., piece (count - 1), one after the other.

@@ -1,13 +1,13 @@
 // A chart out of its file and back: the box table of a file, the file of a chart, and one box of a
 // file.
+use block::Refusal;
 use format::Checked;
 use format::Header;
-use format::Refusal;
 ghost use mathlib.Core.Path.{_≡_};
 ghost use mathlib.Core.List.{_++_};
 ghost use Prim.Native.Nat.{_≤_};
 ghost use lib.ListN.{length, drop};
-ghost use Rattle.format.specs.Block.{seal};
+ghost use Rattle.block.specs.Block.{seal};
 ghost use Rattle.chart.specs.Chart.{boxBlocks, tableOf, headerBody, sealedBlock};
 ghost use Rattle.chart.specs.WriteBack.{fileLength, withFile, putFile};
 ghost use Rattle.chart.specs.ShowBox.{showBox, IsPart};
@@ -54,9 +54,7 @@ fn write_block(part: &mut [u8], added: u32, body: &[u8])
     ensures { λ _. ⌜ now (part .exit) ≡ seal added (now (body .entry)) ++ drop 512 (now (part .entry)) ⌝ }
 {
     bytes::copy(body, part);
-    let check = format::checksum(added, body);
-    part[510] = (check % 256) as u8;
-    part[511] = (check / 256 % 256) as u8;
+    block::seal(added, part);
 }
 
 fn header_body(header: Header) -> [u8; 510]

@@ -13,8 +13,9 @@ use lib.Seq.{getD-take}
 use borrow.Author.Tests.{eq-eqb, ne-eqb}
 use Rattle.boxes.specs.Bytes.{at}
 use Rattle.boxes.proofs.Bools.{never-true}
-use Rattle.format.specs.Block.{addend, isSealed}
-use Rattle.format.specs.File.{blocksOf, blockOf, headerOf, lengthRule, checkRule, refusal, checkFile}
+use Rattle.block.specs.Block.{isSealed}
+use Rattle.block.specs.Refusing.{refusal}
+use Rattle.format.specs.File.{addend, blocksOf, blockOf, headerOf, lengthRule, checkRule, checkFile}
 use Rattle.format.specs.declared.Header.{Header}
 use Rattle.format.specs.declared.Checked.the-variants.{Accepted, Refused}
 use Rattle.format.proofs.Search.{first-is}

@@ -11,12 +11,12 @@ use lib.ListN.{length, take, drop, replicate, take-append-drop, drop-of-length-l
 use lib.Seq.{take-add, take-all, take-take, drop-cons}
 use borrow.Author.Tests.{le-leb}
 use Rattle.boxes.specs.Bytes.{at, part}
-use Rattle.format.specs.Block.{addend, isSealed, seal}
-use Rattle.format.specs.File.{blockOf, blocksFor, checkRule, checkFile}
+use Rattle.block.specs.Block.{isSealed, seal}
+use Rattle.block.proofs.Sums.{check-front}
+use Rattle.block.proofs.Seals.{sealed-bytes}
+use Rattle.format.specs.File.{addend, blockOf, blocksFor, checkRule, checkFile}
 use Rattle.format.specs.declared.Header.{Header}
 use Rattle.format.specs.declared.Checked.the-variants as checked
-use Rattle.format.proofs.Sums.{check-front}
-use Rattle.format.proofs.Seals.{sealed-bytes}
 use Rattle.boxes.proofs.Zeros.{zeros-are}
 use Rattle.format.proofs.Passes.{Passes, passes}
 use Rattle.format.proofs.Ranges.{in-range}

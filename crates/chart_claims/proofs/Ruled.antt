@@ -14,13 +14,13 @@ use lib.Seq.{getD-take, take-at, drop-drop}
 use borrow.Author.Tests.{lt-ltb, le-ltb}
 use Rattle.boxes.specs.Bytes.{at, part, allZero, boxOf}
 use Rattle.boxes.proofs.Zeros.{zeros-are}
-use Rattle.format.specs.Block.{addend, seal}
-use Rattle.format.specs.File.{blocksOf, blockOf, headerOf, blocksFor, placeStart, placeOf, lengthRule, checkRule, lettersRule, inRange, headerRule, boxRule, placeRule, checkFile}
+use Rattle.block.specs.Block.{seal}
+use Rattle.block.proofs.Seals.{seal-seals}
+use Rattle.format.specs.File.{addend, blocksOf, blockOf, headerOf, blocksFor, placeStart, placeOf, lengthRule, checkRule, lettersRule, inRange, headerRule, boxRule, placeRule, checkFile}
 use Rattle.format.specs.declared.Header.{Header}
 use Rattle.format.specs.declared.Checked.the-variants.{Accepted}
 use Rattle.format.proofs.Ranges.{in-range}
 use Rattle.format.proofs.Search.{none-fails}
-use Rattle.format.proofs.Seals.{seal-seals}
 use Rattle.format.proofs.Checks.{Past, tells-chart}
 use Rattle.chart.specs.Chart.{joined, boxBlocks, boxesOf, tableOf, headerBody, bodyOf, sealedBlock, fileOf}
 use Rattle.chart_claims.specs.Claims.{Ruled, RuledIsLoaded}

@@ -8,7 +8,8 @@ use mathlib.Core.Logic.{_⊎_, _≢_}
 use mathlib.Core.Bool.{true}
 use lib.ListN.{length}
 use Rattle.boxes.specs.Bytes.{at, part, allZero, boxOf}
-use Rattle.format.specs.File.{blocksOf, blockOf, boxRule, refusal, checkFile}
+use Rattle.block.specs.Refusing.{refusal}
+use Rattle.format.specs.File.{blocksOf, blockOf, boxRule, checkFile}
 use Rattle.format.specs.declared.Header.{Header}
 use Rattle.format.specs.declared.Checked.the-variants.{Accepted, Refused}
 use Rattle.chart.specs.Chart.{tableOf}

@@ -7,8 +7,8 @@ use mathlib.Core.List.{List}
 use mathlib.Core.Logic.{_≢_}
 use mathlib.Core.Bool.{cond}
 use lib.Dec.{eqb}
-use Rattle.format.specs.Block.{addend}
-use Rattle.format.specs.File.{blocksOf, blockOf, refusal, checkFile}
+use Rattle.block.specs.Refusing.{refusal}
+use Rattle.format.specs.File.{addend, blocksOf, blockOf, checkFile}
 use Rattle.format.specs.declared.Header.{Header}
 use Rattle.format.specs.declared.Checked.the-variants.{Accepted, Refused}
 use Rattle.chart.specs.Chart.{joined}

@@ -10,10 +10,11 @@ use native.Mathlib.Omega.{arith}
 use lib.Dec.{ltb}
 use lib.ListN.{length}
 use borrow.Author.Tests.{lt-ltb, le-ltb, lt-leb, le-leb, leb-true, not-false}
+use Rattle.block.specs.Refusing.{refusal}
+use Rattle.block.specs.declared.Refusal.{Refusal}
 use Rattle.format.specs.Search.{firstFailing}
-use Rattle.format.specs.File.{inRange, refusal, checkFile}
+use Rattle.format.specs.File.{inRange, checkFile}
 use Rattle.format.specs.declared.Header.{Header}
-use Rattle.format.specs.declared.Refusal.{Refusal}
 use Rattle.format.specs.declared.Checked.{Checked}
 use Rattle.format.specs.declared.Checked.the-variants.{Accepted, Refused}
 use Rattle.format.proofs.Passes.{passed, passes}

@@ -9,7 +9,7 @@ use lib.ListN.{length}
 use Rattle.boxes.specs.Bytes.{at, boxOf}
 use Rattle.boxes.specs.Box.{hasKind}
 use Rattle.format.specs.Search.{firstFailing}
-use Rattle.format.specs.File.{refusal, checkFile}
+use Rattle.format.specs.File.{refuseIf, checkFile}
 use Rattle.format.specs.declared.Header.{Header}
 use Rattle.format.specs.declared.Checked.{Checked}
 use Rattle.format.specs.declared.Checked.the-variants as checked
@@ -46,8 +46,8 @@ unfoldable pub checkChart : Header → (table : List ℕ) (room : ℕ) → Check
 checkChart h table room =
     let other = inOther h in
     let untaken = firstFailing (takesBox (other .edition) table) (h .boxes) in
-    cond (ltb untaken (h .boxes)) (checked.Refused (refusal 14 untaken))
-    (cond (not (hasRoom other room)) (checked.Refused (refusal 12 0))
+    refuseIf (ltb untaken (h .boxes)) 14 untaken
+    (refuseIf (not (hasRoom other room)) 12 0
     (checked.Accepted other))
 
 -- "01's load checks 1 to 6 come first."

@@ -1,8 +1,8 @@
 // The converter between the editions: a chart's file into its file of the other edition.
+use block::Refusal;
 use chart::Written;
 use format::Checked;
 use format::Header;
-use format::Refusal;
 ghost use mathlib.Core.Path.{_≡_};
 ghost use Prim.Native.Nat.{_≤_};
 ghost use lib.ListN.{length};
@@ -62,16 +62,10 @@ fn check_chart(header: Header, table: &[u8], room: usize) -> Checked
     let boxes = widen::to_usize(header.boxes);
     let untaken = first_untaken(other.edition, table, boxes);
     if untaken < boxes {
-        return Checked::Refused(Refusal {
-            number: 14,
-            detail: untaken as u32,
-        });
+        return Checked::Refused(Refusal::new(14, untaken as u32));
     }
     if room < chart::file_length(other) {
-        return Checked::Refused(Refusal {
-            number: 12,
-            detail: 0,
-        });
+        return Checked::Refused(Refusal::new(12, 0));
     }
     Checked::Accepted(other)
 }

@@ -15,7 +15,7 @@ use Rattle.boxes.specs.Bytes.{boxOf}
 use Rattle.boxes.proofs.Zeros.{zeros-are}
 use Rattle.format.specs.File.{headerOf, checkFile}
 use Rattle.format.specs.declared.Header.{Header}
-use Rattle.format.specs.declared.Refusal.{Refusal}
+use Rattle.block.specs.declared.Refusal.{Refusal}
 use Rattle.format.specs.declared.Checked.the-variants as checked
 use Rattle.format.proofs.Passes.{passes}
 use Rattle.chart.specs.Chart.{tableOf, Chart, chartOf}

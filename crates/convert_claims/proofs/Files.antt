@@ -11,9 +11,10 @@ use lib.ListN.{length, take, drop}
 use lib.Seq.{take-at}
 use Rattle.boxes.specs.Bytes.{boxOf}
 use Rattle.boxes.proofs.Bools.{never-false}
-use Rattle.format.specs.File.{headerOf, isEdition, refusal, checkFile}
+use Rattle.block.specs.Refusing.{refusal}
+use Rattle.format.specs.File.{headerOf, isEdition, checkFile}
 use Rattle.format.specs.declared.Header.{Header}
-use Rattle.format.specs.declared.Refusal.{Refusal}
+use Rattle.block.specs.declared.Refusal.{Refusal}
 use Rattle.format.specs.declared.Checked.{Checked}
 use Rattle.format.specs.declared.Checked.the-variants.{Accepted, Refused}
 use Rattle.format.proofs.Passes.{passes, refused-at-most-six}

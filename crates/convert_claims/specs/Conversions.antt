@@ -7,9 +7,10 @@ use mathlib.Core.Bool.{true, false}
 use lib.ListN.{length, take, drop}
 use Rattle.boxes.specs.Bytes.{at, boxOf}
 use Rattle.boxes.specs.Box.{hasKind, wellFormed}
-use Rattle.format.specs.File.{headerOf, isEdition, refusal, checkFile}
+use Rattle.block.specs.Refusing.{refusal}
+use Rattle.format.specs.File.{headerOf, isEdition, checkFile}
 use Rattle.format.specs.declared.Header.{Header}
-use Rattle.format.specs.declared.Refusal.{Refusal}
+use Rattle.block.specs.declared.Refusal.{Refusal}
 use Rattle.format.specs.declared.Checked.the-variants as checked
 use Rattle.chart.specs.Chart.{tableOf, chartOf}
 use Rattle.chart.specs.declared.Written.the-variants.{Length, Refused}

@@ -2,9 +2,9 @@
 // and for tests.
 pub mod kinds;
 
+use block::Refusal;
 use calls::Verdict;
 use chart::Written;
-use format::Refusal;
 use runner::AdvanceTold;
 use runner::AnswerTold;
 use runner::LoadTold;

@@ -4,8 +4,8 @@ use lib.Count.{trailingZeros}
 use Rattle.boxes.specs.Bytes.{allZero}
 use Rattle.boxes.specs.Box.{operandRule, assignmentRule, decisionRule, haltRule, choiceRule, wellFormed}
 use Rattle.format.specs.Search.{firstFrom}
-use Rattle.format.specs.Block.{weighted, addend, checksum, isSealed, seal}
-use Rattle.format.specs.File.{checkRule, headerRule, placeRule, checkFile}
+use Rattle.block.specs.Block.{weighted, checksum, isSealed, seal}
+use Rattle.format.specs.File.{addend, checkRule, headerRule, placeRule, checkFile}
 use Rattle.chart.specs.Chart.{joined, tableOf, headerBody, bodyOf, fileOf}
 use Rattle.chart.specs.WriteBack.{withFile}
 use Rattle.convert.specs.Convert.{takes, checkChart, checkAfter, conversionBy, convert}

@@ -5,8 +5,9 @@ use mathlib.Core.List.{List, [], _∷_, _++_, map}
 use mathlib.Core.Bool.{cond}
 use lib.Dec.{eqb}
 use lib.ListN.{length, replicate}
-use Rattle.format.specs.Block.{checksum}
-use Rattle.format.specs.File.{headerOf, refusal, checkFile}
+use Rattle.block.specs.Block.{checksum}
+use Rattle.block.specs.Refusing.{refusal}
+use Rattle.format.specs.File.{headerOf, checkFile}
 use Rattle.format.specs.declared.Checked.{Checked}
 use Rattle.format.specs.declared.Checked.the-variants.{Accepted, Refused}
 use Rattle.chart.specs.declared.Written.{Written}

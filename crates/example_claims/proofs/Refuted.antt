@@ -8,7 +8,7 @@ use mathlib.Core.Bool.{false≢true}
 use native.Mathlib.Omega.{arith}
 use lib.ListN.{replicate}
 use Rattle.boxes.specs.Bytes.{at}
-use Rattle.format.specs.File.{refusal}
+use Rattle.block.specs.Refusing.{refusal}
 use Rattle.machine.specs.Run.{Ending, valued, notice, spent}
 use Rattle.begin.specs.Begin.{limitForNone}
 use Rattle.calls.specs.Calls.{load, begin, advance, answer, writeBack, rewrite}

@@ -3,7 +3,7 @@
 use Prim.Native.Nat.{ℕ}
 use mathlib.Core.List.{List, [], _∷_, _++_}
 use lib.ListN.{replicate, set}
-use Rattle.format.specs.File.{refusal}
+use Rattle.block.specs.Refusing.{refusal}
 use Rattle.chart.specs.declared.Written.the-variants.{Length, Refused}
 use Rattle.example_charts.specs.Charts.{block, front, assign, decide, halt, halts, chartA, chartATwo, chartD, headE, sumTwo, zerosOne, zerosTwo, threeOne, threeTwo}
 use Rattle.example_charts.specs.Cases.{Case, converts, Table}

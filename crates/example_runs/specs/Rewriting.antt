@@ -3,7 +3,7 @@
 -- and after.
 use Prim.Native.Nat.{ℕ}
 use mathlib.Core.List.{List, [], _∷_, _++_}
-use Rattle.format.specs.File.{refusal}
+use Rattle.block.specs.Refusing.{refusal}
 use Rattle.chart.specs.declared.Written.the-variants.{Refused}
 use Rattle.machine.specs.Run.{valued, notice, spent}
 use Rattle.example_charts.specs.Charts.{block, front, assign, decide, choice, halt, withHalt, chartChoice, oneInput, chartFork, chartForkNew, between, turn, chartTurns, chartNever}

@@ -5,8 +5,9 @@ use mathlib.Core.List.{List}
 use mathlib.Core.Bool.{true, false}
 use lib.ListN.{length}
 use borrow.Author.Tests.{lt-ltb, le-ltb, eq-eqb, ne-eqb}
+use Rattle.block.specs.Refusing.{refusal}
 use Rattle.format.specs.Search.{firstFailing}
-use Rattle.format.specs.File.{blocksOf, blocksFor, headerOf, lengthRule, checkRule, lettersRule, headerRule, placeRule, refusal, checkFile}
+use Rattle.format.specs.File.{blocksOf, blocksFor, headerOf, lengthRule, checkRule, lettersRule, headerRule, placeRule, checkFile}
 use Rattle.format.specs.declared.Checked.the-variants.{Accepted, Refused}
 
 -- The names of checkFile's definition.

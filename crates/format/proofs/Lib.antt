@@ -1,6 +1,5 @@
 -- Laws of the definitions in specs/ that the proofs cite.
 pub mod Search
-pub mod Sums
 pub mod Seals
 pub mod Places
 pub mod Checks

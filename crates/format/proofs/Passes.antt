@@ -3,16 +3,17 @@
 use Prim.Native.Nat.{ℕ, _*_, _-_, _≤_, _<_}
 use mathlib.Core.Path.{_≡_, refl, ap}
 use mathlib.Core.List.{List, [], _∷_}
-use mathlib.Core.Bool.{Bool, true, false, cond, not}
+use mathlib.Core.Bool.{Bool, true, false, not}
 use native.Mathlib.Omega.{arith}
 use lib.Dec.{eqb, ltb}
 use lib.ListN.{length}
 use borrow.Author.Tests.{eqb-true, not-false}
 use Rattle.boxes.specs.Bytes.{at, part, allZero}
+use Rattle.block.specs.Refusing.{refusal}
+use Rattle.block.specs.declared.Refusal.{Refusal}
 use Rattle.format.specs.Search.{firstFailing}
-use Rattle.format.specs.File.{blocksOf, blocksFor, headerOf, isEdition, inRange, lengthRule, checkRule, lettersRule, headerRule, placeRule, refusal, checkFile}
+use Rattle.format.specs.File.{blocksOf, blocksFor, headerOf, isEdition, inRange, lengthRule, checkRule, lettersRule, headerRule, placeRule, refuseIf, checkFile}
 use Rattle.format.specs.declared.Header.{Header}
-use Rattle.format.specs.declared.Refusal.{Refusal}
 use Rattle.format.specs.declared.Checked.{Checked}
 use Rattle.format.specs.declared.Checked.the-variants as checked
 use Rattle.boxes.proofs.Bools.{and-left, and-right, every}
@@ -43,13 +44,14 @@ pub record Passes (f : List ℕ) (h : Header) : Type 0 where
   pub places : (p : ℕ) → p < 51 * (blocksFor (h .boxes) - 1) → placeRule f h p ≡ true
 
 -- A check that a file passed did not refuse it.
-pub passed : (b : Bool) {x : Checked} (number detail : ℕ) {h : Header} → cond b (checked.Refused (refusal number detail)) x ≡ checked.Accepted h → (b ≡ false) × (x ≡ checked.Accepted h)
+pub passed : (broken : Bool) {otherwise : Checked} (number detail : ℕ) {h : Header} → refuseIf broken number detail otherwise ≡ checked.Accepted h
+    → (broken ≡ false) × (otherwise ≡ checked.Accepted h)
 passed true number detail e = let z : _≡_ {A = ℕ} 0 1 = cc in absurd (omega arith)
 passed false number detail e = (refl, e)
 
 -- No refusal has a number above 6.
-six-at-most : (b : Bool) {x : Checked} (number detail : ℕ) (r : Refusal) → number ≤ 6 → cond b (checked.Refused (refusal number detail)) x ≡ checked.Refused r
-    → (x ≡ checked.Refused r → r .number ≤ 6) → r .number ≤ 6
+six-at-most : (broken : Bool) {otherwise : Checked} (number detail : ℕ) (r : Refusal) → number ≤ 6 → refuseIf broken number detail otherwise ≡ checked.Refused r
+    → (otherwise ≡ checked.Refused r → r .number ≤ 6) → r .number ≤ 6
 six-at-most true number detail r l e rest =
     let same : refusal number detail ≡ r = cc in
     let is = ap (λ (z : Refusal). z .number) same in

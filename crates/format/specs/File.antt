@@ -7,10 +7,10 @@ use lib.Dec.{eqb, ltb, leb}
 use lib.ListN.{length}
 use Rattle.boxes.specs.Bytes.{at, part, allZero}
 use Rattle.format.specs.Search.{firstFailing}
-use Rattle.format.specs.Block.{addend, isSealed}
 use Rattle.boxes.specs.Box.{wellFormed}
+use Rattle.block.specs.Block.{isSealed}
+use Rattle.block.specs.Refusing.{refuseInto}
 use Rattle.format.specs.declared.Header.{Header}
-use Rattle.format.specs.declared.Refusal.{Refusal}
 use Rattle.format.specs.declared.Checked.{Checked}
 use Rattle.format.specs.declared.Checked.the-variants.{Accepted, Refused}
 
@@ -42,6 +42,11 @@ blocksFor n = 1 + (n + 50) / 51
 abbrev pub lengthRule : ℕ → Bool
 lengthRule bytes = eqb bytes 1024 || eqb bytes 1536 || eqb bytes 2048 || eqb bytes 2560
 
+-- 02, d: "When byte 4 of block 0 is 2, the check of block b adds 511 × b before the modulus is
+-- taken." What it adds, by that byte.
+unfoldable pub addend : (edition b : ℕ) → ℕ
+addend edition b = cond (eqb edition 2) (511 * b) 0
+
 -- "2: a block's check differs." 02, d: "It refuses a block whose changed check differs by 2, in the
 -- old place", so byte 4 of block 0 counts whatever the letters are.
 unfoldable pub checkRule : List ℕ → Header → ℕ → Bool
@@ -72,23 +77,22 @@ boxRule h b = wellFormed (h .edition) (h .inputs) (h .boxes) b
 unfoldable pub placeRule : List ℕ → Header → ℕ → Bool
 placeRule f h p = cond (ltb p (h .boxes)) (boxRule h (placeOf f p)) (allZero (placeOf f p))
 
--- A refusal by document 01's number and detail.
-abbrev pub refusal : ℕ → ℕ → Refusal
-refusal number detail = record { number = number; detail = detail }
+-- A rule of a chart's file, which refuses it by a number and a detail where it is broken.
+abbrev pub refuseIf : (broken : Bool) (number detail : ℕ) → Checked → Checked
+refuseIf broken number detail otherwise = refuseInto Refused broken number detail otherwise
 
 -- Load's input checks, "1 to 6 in order": "2: .. Detail: the first such block." "5: the length
--- doesn't fit n." "6: ..
--- Detail: the first such place."
+-- doesn't fit n." "6: .. Detail: the first such place."
 unfoldable pub checkFile : List ℕ → Checked
 checkFile f =
     let blocks = blocksOf f in
     let wrong = firstFailing (checkRule f (headerOf f)) blocks in
     let places = 51 * (blocks - 1) in
     let broken = firstFailing (placeRule f (headerOf f)) places in
-    cond (not (lengthRule (length f))) (Refused (refusal 1 0))
-    (cond (ltb wrong blocks) (Refused (refusal 2 wrong))
-    (cond (not (lettersRule f)) (Refused (refusal 3 0))
-    (cond (not (headerRule f)) (Refused (refusal 4 0))
-    (cond (not (eqb blocks (blocksFor (headerOf f .boxes)))) (Refused (refusal 5 0))
-    (cond (ltb broken places) (Refused (refusal 6 broken))
+    refuseIf (not (lengthRule (length f))) 1 0
+    (refuseIf (ltb wrong blocks) 2 wrong
+    (refuseIf (not (lettersRule f)) 3 0
+    (refuseIf (not (headerRule f)) 4 0
+    (refuseIf (not (eqb blocks (blocksFor (headerOf f .boxes)))) 5 0
+    (refuseIf (ltb broken places) 6 broken
     (Accepted (headerOf f)))))))

@@ -1,20 +1,10 @@
 // The chart file's rules: what load's input checks 1 to 6 answer of any bytes.
-mod block;
-
-pub use block::addend;
-pub use block::checksum;
-use block::is_sealed;
+use block::Refusal;
 ghost use mathlib.Core.Path.{_≡_};
 ghost use Prim.Native.Nat.{ℕ, _+_, _*_, _<_, _≤_};
 ghost use lib.ListN.{length};
 ghost use Rattle.format.specs.Search.{firstFailing};
-ghost use Rattle.format.specs.File.{placeStart, blocksFor, lengthRule, checkRule, lettersRule, headerOf, inRange, headerRule, placeRule, refusal, checkFile};
-
-// A refusal, by document 01's number and detail.
-pub struct Refusal {
-    pub number: u32,
-    pub detail: u32,
-}
+ghost use Rattle.format.specs.File.{addend, placeStart, blocksFor, lengthRule, checkRule, lettersRule, headerOf, inRange, headerRule, placeRule, checkFile};
 
 // Block 0's numbers of a chart: the edition, the number of inputs, of boxes, and the first box run.
 pub struct Header {
@@ -28,12 +18,6 @@ pub struct Header {
 pub enum Checked {
     Accepted(Header),
     Refused(Refusal),
-}
-
-fn refuse(number: u32, detail: u32) -> Checked
-    ensures { λ r. ⌜ r ≡ Checked.Refused (refusal number detail) ⌝ }
-{
-    Checked::Refused(Refusal { number, detail })
 }
 
 fn length_holds(len: usize) -> bool
@@ -97,6 +81,16 @@ fn header_holds(file: &[u8]) -> bool
     in_range(header_of(file)) & boxes::all_zero(&file[8..510])
 }
 
+// What the check of block b adds in a file of this edition.
+pub fn addend(edition: u8, b: u8) -> u32
+    ensures { λ r. ⌜ r ≡ addend edition b ⌝ }
+{
+    if edition == 2 {
+        return 511 * widen::to_u32(b);
+    }
+    0
+}
+
 // The first of a file's blocks whose check differs, or their number where none does.
 fn first_wrong(file: &[u8], header: Header, blocks: usize) -> usize
     requires { ⌜ (blocks ≤ 5) × (512 * blocks ≤ length (now file)) ⌝ }
@@ -107,7 +101,7 @@ fn first_wrong(file: &[u8], header: Header, blocks: usize) -> usize
         let start = 512 * j;
         let end = start + 512;
         let added = addend(header.edition, j as u8);
-        if !is_sealed(added, &file[start..end]) {
+        if !block::is_sealed(added, &file[start..end]) {
             return j;
         }
         j += 1;
@@ -150,27 +144,27 @@ pub fn check_file(file: &[u8]) -> Checked
 {
     let len = file.len();
     if !length_holds(len) {
-        return refuse(1, 0);
+        return Checked::Refused(Refusal::new(1, 0));
     }
     let blocks = len / 512;
     let header = header_of(file);
     let wrong = first_wrong(file, header, blocks);
     if wrong < blocks {
-        return refuse(2, wrong as u32);
+        return Checked::Refused(Refusal::new(2, wrong as u32));
     }
     if !letters_hold(file) {
-        return refuse(3, 0);
+        return Checked::Refused(Refusal::new(3, 0));
     }
     if !header_holds(file) {
-        return refuse(4, 0);
+        return Checked::Refused(Refusal::new(4, 0));
     }
     if blocks != blocks_for(header.boxes) {
-        return refuse(5, 0);
+        return Checked::Refused(Refusal::new(5, 0));
     }
     let places = 51 * (blocks - 1);
     let broken = first_broken(file, header, places);
     if broken < places {
-        return refuse(6, broken as u32);
+        return Checked::Refused(Refusal::new(6, broken as u32));
     }
     Checked::Accepted(header)
 }

@@ -11,7 +11,7 @@ use lib.Dec.{eqb, ltb, leb, eqb·suc-zero}
 use lib.ListN.{length, take, replicate, length-append, length-take, length-map, length-replicate}
 use lib.Seq.{append-snoc, take-all}
 use borrow.Author.Tests.{leb-true, leb-false, eqb-false, lt-ltb, le-ltb, le-leb, lt-leb, eq-eqb, ne-eqb}
-use Rattle.boxes.proofs.Bools.{and-right, every}
+use Rattle.boxes.proofs.Bools.{and-assoc, and-right, every}
 use Rattle.line.specs.Parsing.{firstPart, laterParts, parts, isDigit, allDigits, numberFrom, numberOf, extraZero, isNumber, allNumbers, isLine, numbersOf, parse}
 use Rattle.line.specs.declared.parsing.Numbers.{Numbers}
 use Rattle.line.proofs.Scan.{follows, taken, digit-from}
@@ -111,10 +111,6 @@ last-false true true false = refl
 last-false true false c = refl
 last-false false b c = refl
 
-and-assoc : (a b c : Bool) → (a && (b && c)) ≡ ((a && b) && c)
-and-assoc true b c = refl
-and-assoc false b c = refl
-
 spaced : (b : ℕ) (xs ns : List ℕ) (v d : ℕ) → eqb b 32 ≡ true → length ns ≤ 18 → v ≤ 4294967295
     → (length ns < 18 → taken (ns ++ (v ∷ [])) 0 0 xs ≡ Made (ns ++ (v ∷ [])) 0 0 xs)
     → taken ns v d (b ∷ xs) ≡ Made ns v d (b ∷ xs)
@@ -136,7 +132,7 @@ spaced b xs ns v (suc d) e l m h = rw (e, eqb·suc-zero d, le-leb v 4294967295 m
         let longer : length (ns ++ (v ∷ [])) + suc later ≡ length ns + suc (suc later) = omega (arith, length-append ns (v ∷ [])) in
         rw (longer, append-snoc ns v (numberOf (firstPart xs) ∷ map numberOf (laterParts xs)))
         (ap (λ (t : Bool). cond t all (numbersOf []))
-        (and-assoc (isNumber (firstPart xs)) (allNumbers (laterParts xs)) (countRule (length ns + suc (suc later)))))
+        (sym (and-assoc (isNumber (firstPart xs)) (allNumbers (laterParts xs)) (countRule (length ns + suc (suc later))))))
 
     by : Dec (length ns ≡ 18)
         → cond (eqb (length ns) 18) (numbersOf []) (taken (ns ++ (v ∷ [])) 0 0 xs) ≡ cond (rule && countRule (length ns + suc (suc later))) all (numbersOf [])

@@ -8,7 +8,8 @@ use native.Mathlib.Omega.{arith}
 use lib.ListN.{length, take, length-take}
 use lib.Seq.{take-all}
 use borrow.Author.Tests.{ltb-true, ne-eqb}
-use Rattle.format.specs.File.{refusal, checkFile}
+use Rattle.block.specs.Refusing.{refusal}
+use Rattle.format.specs.File.{checkFile}
 use Rattle.format.specs.declared.Checked.the-variants.{Refused}
 use Rattle.calls.specs.Calls.{fileVerdict, check}
 use Rattle.runner.specs.State.{newRunner}

@@ -8,7 +8,7 @@ use lib.ListN.{length}
 use borrow.Author.Tests.{eq-eqb, ne-eqb}
 use Rattle.io.specs.Counts.{Counts}
 use Rattle.texts.proofs.Fronts.{printed-counts}
-use Rattle.format.specs.declared.Refusal.{Refusal}
+use Rattle.block.specs.declared.Refusal.{Refusal}
 use Rattle.calls.specs.Calls.{advance, answer}
 use Rattle.calls.specs.declared.Verdict.{Verdict}
 use Rattle.calls.specs.declared.Verdict.the-variants as verdict

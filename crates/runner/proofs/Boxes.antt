@@ -19,7 +19,7 @@ use denote.Struct.Laws.{val}
 use Rattle.decode.specs.Decode.{boxFrom, boxAt, Box, meaning}
 use Rattle.decode.proofs.Decoded.{Finds}
 use Rattle.decode.specs.declared.FlowBox.{FlowBox}
-use Rattle.format.specs.declared.Refusal.{Refusal}
+use Rattle.block.specs.declared.Refusal.{Refusal}
 use Rattle.marks.specs.Marks.{Mode, bare, surveillance, highWater, modeOf, masksOf, setBy, hides}
 use Rattle.marks.specs.declared.Masks.{Masks}
 use Rattle.machine.specs.Act.{actBy, act}

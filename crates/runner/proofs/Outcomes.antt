@@ -4,9 +4,10 @@ use Prim.Native.Nat.{ℕ, _≤_, _<_}
 use mathlib.Core.Path.{_≡_, ap, sym, _∙_}
 use mathlib.Core.List.{List, []}
 use borrow.Author.Tests.{le-leb, lt-leb, eq-eqb, ne-eqb}
-use Rattle.format.specs.File.{checkFile, refusal}
+use Rattle.block.specs.Refusing.{refusal}
+use Rattle.format.specs.File.{checkFile}
 use Rattle.format.specs.declared.Header.{Header}
-use Rattle.format.specs.declared.Refusal.{Refusal}
+use Rattle.block.specs.declared.Refusal.{Refusal}
 use Rattle.format.specs.declared.Checked.the-variants as checked
 use Rattle.format.proofs.Passes.{passes}
 use Rattle.chart.specs.Chart.{tableOf}

@@ -4,7 +4,7 @@ use Prim.Native.Nat.{ℕ}
 use mathlib.Core.List.{List, []}
 use mathlib.Core.Bool.{cond}
 use Rattle.format.specs.File.{headerOf}
-use Rattle.format.specs.declared.Refusal.{Refusal}
+use Rattle.block.specs.declared.Refusal.{Refusal}
 use Rattle.chart.specs.Chart.{Chart, chartOf}
 use Rattle.chart.specs.WriteBack.{fileLength, withFile}
 use Rattle.rewrite.specs.Rewrite.{rewrittenChart}

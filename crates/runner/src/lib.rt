@@ -1,16 +1,16 @@
 // The runner and its seven calls.
+use block::Refusal;
 use calls::Standing;
 use calls::Verdict;
 use chart::Written;
 use format::Checked;
 use format::Header;
-use format::Refusal;
 use machine::Act;
 ghost use mathlib.Core.Path.{_≡_};
 ghost use mathlib.Core.Bool.{cond};
 ghost use mathlib.Core.List.{[]};
 ghost use lib.Dec.{eqb, leb};
-ghost use Rattle.format.specs.File.{refusal};
+ghost use Rattle.block.specs.Refusing.{refusal};
 ghost use Rattle.marks.specs.Marks.{modeOf, hides};
 ghost use Rattle.calls.specs.Calls.{load, begin, advance, answer, abandon, writeBack, rewrite, byVerdict};
 ghost use Rattle.runner.specs.State.{runningState, valueState, noticeState, newRunner, dropped};

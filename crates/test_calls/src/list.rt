@@ -1,7 +1,5 @@
 // A list of calls in the making: the files that it lends, the numbers of its calls, and what is
 // lent for what they tell.
-ghost use Prim.Native.Nat.{min};
-ghost use mathlib.Core.Path.{_≡_};
 
 // The first `kept` bytes of `files` and the first `numbers` of `words` are there; what the calls
 // tell has room for `room` numbers, and the buffer has `length` bytes, each `filled`. `fits`
@@ -29,12 +27,6 @@ pub fn new() -> List {
         filled: 7,
         fits: true,
     }
-}
-
-pub fn least(a: usize, b: usize) -> usize
-    ensures { λ r. ⌜ r ≡ min a b ⌝ }
-{
-    if a < b { a } else { b }
 }
 
 // The numbers before a place, or all of them where there are fewer.
@@ -81,7 +73,7 @@ impl List {
 
     // The last numbers of the calls are not lent.
     pub fn less(mut self, numbers: usize) -> List {
-        self.numbers = self.numbers - least(numbers, self.numbers);
+        self.numbers = self.numbers - widen::lesser(numbers, self.numbers);
         self
     }
 

@@ -6,7 +6,6 @@ mod list;
 mod report;
 
 use list::List;
-use list::least;
 use list::numbers_to;
 use test_samples::files::File;
 use test_samples::files::front;
@@ -73,8 +72,8 @@ fn make_calls(
     buffer: &mut [u8],
     length: usize,
 ) -> usize {
-    let numbers = least(room, told.len());
-    let bytes = least(length, buffer.len());
+    let numbers = widen::lesser(room, told.len());
+    let bytes = widen::lesser(length, buffer.len());
     test_script::flow_script(files, words, &mut told[..numbers], &mut buffer[..bytes])
 }
 

@@ -16,8 +16,6 @@
 use runner::Runner;
 use encoding::Encoded;
 use encoding::kinds;
-ghost use Prim.Native.Nat.{min};
-ghost use mathlib.Core.Path.{_≡_};
 
 // Told where a kind is that of no call. No reply has it: the kinds of `encoding` are below.
 const NO_CALL: u32 = 16;
@@ -34,12 +32,6 @@ fn after(runner: Runner, told: Encoded, sum: u32) -> Turn {
     Turn { runner, told, sum }
 }
 
-fn least(a: usize, b: usize) -> usize
-    ensures { λ r. ⌜ r ≡ min a b ⌝ }
-{
-    if a < b { a } else { b }
-}
-
 // The number at a place, 0 past the end.
 fn word(words: &[u32], i: usize) -> u32 {
     if i < words.len() {
@@ -50,8 +42,8 @@ fn word(words: &[u32], i: usize) -> u32 {
 
 // So many of the lent bytes, or as many as there are.
 fn part(files: &[u8], from: u32, length: u32) -> &[u8] {
-    let start = least(from as usize, files.len());
-    let end = start + least(length as usize, files.len() - start);
+    let start = widen::lesser(from as usize, files.len());
+    let end = start + widen::lesser(length as usize, files.len() - start);
     &files[start..end]
 }
 
@@ -73,7 +65,7 @@ fn load(runner: Runner, file: &[u8]) -> Turn {
 }
 
 fn begin(runner: Runner, words: &[u32]) -> Turn {
-    let count = least(word(words, 4) as usize, 17);
+    let count = widen::lesser(word(words, 4) as usize, 17);
     let mut inputs = [0u32; 17];
     for j in 0..17 {
         inputs[j] = word(words, 5 + j);
@@ -105,7 +97,7 @@ fn abandon(runner: Runner) -> Turn {
 }
 
 fn write(runner: Runner, room: u32, buf: &mut [u8]) -> Turn {
-    let end = least(room as usize, buf.len());
+    let end = widen::lesser(room as usize, buf.len());
     let told = encoding::of_written(runner.write_back(&mut buf[..end]));
     after(runner, told, sum_of(buf))
 }
@@ -117,7 +109,7 @@ fn show(runner: Runner, file: &[u8], number: u32) -> Turn {
 }
 
 fn convert(runner: Runner, file: &[u8], room: u32, buf: &mut [u8]) -> Turn {
-    let end = least(room as usize, buf.len());
+    let end = widen::lesser(room as usize, buf.len());
     let told = encoding::of_written(convert::convert(file, &mut buf[..end]));
     after(runner, told, sum_of(buf))
 }

@@ -89,7 +89,7 @@ fn part(bytes: &[u8], from: usize, to: usize) -> &[u8] {
 
 // The check of a block, with so much added: as it is summed, and as the block holds it.
 fn print_check(words: &[u8], added: u32, block: &[u8]) {
-    number(words, format::checksum(added, block) as u64);
+    number(words, block::checksum(added, block) as u64);
     row(b", bytes 510 and 511:", part(block, 510, 512));
 }
 
@@ -220,7 +220,7 @@ fn file_of(runner: Runner) -> [u8; 1024] {
 fn check_of(bytes: &[u8; 1024], b: u8) -> u32 {
     let all: &[u8] = bytes;
     let start = 512 * ((b % 2) as usize);
-    format::checksum(format::addend(bytes[4], b), part(all, start, start + 512))
+    block::checksum(format::addend(bytes[4], b), part(all, start, start + 512))
 }
 
 // The checks of both blocks made right.

@@ -2,7 +2,7 @@
 -- the lines of what is left make the rest of the portion (Feeds). Keeping: what was moved stands at
 -- the front (Keeps). And the ends of a buffer's part, which are at most its length. Assumes
 -- nothing.
-use Prim.Native.Nat.{ℕ, zero, suc, _+_, _-_, _≤_, _<_, min}
+use Prim.Native.Nat.{ℕ, suc, _+_, _-_, _≤_, _<_, min}
 use mathlib.Core.Path.{_≡_, refl, ap, sym, _∙_, subst}
 use mathlib.Core.List.{List, [], _∷_, _++_, append-assoc, append-nil}
 use mathlib.Core.Bool.{Bool, true, false}
@@ -11,10 +11,10 @@ use native.Mathlib.Decide.{ℕ-discrete, decLt}
 use native.Mathlib.Numerals.{add-one}
 use native.Mathlib.Omega.{arith}
 use lib.ListN.{length, getD, take, drop, set, length-append, length-take, length-drop, length-set, drop-of-length-le}
-use lib.Seq.{take-nil, take-length, take-all, take-at, take-take, take-suc, drop-drop, getD-append-add, getD-drop, length-take-le}
+use lib.Seq.{take-length, take-all, take-at, take-take, take-suc, drop-drop, getD-append-add, getD-drop, length-take-le}
 use borrow.Author.Tests.{lt-ltb, le-ltb}
 use borrow.Rule.Slice.PartMut.{putMid}
-use Rattle.lists.proofs.Parts.{take-min}
+use Rattle.lists.proofs.Parts.{take-min, drop-take}
 use Rattle.lists.proofs.Fronts.{front, then-front, end-front}
 use Rattle.bytes.specs.Bytes.{slice, indexOf}
 use Rattle.texts.specs.Printing.{printed, printedLength}
@@ -32,12 +32,6 @@ drop-min n l = by (decLt n (length l))
     by (no q) =
         let e : min n (length l) ≡ length l = omega arith in
         ap (λ (m : ℕ). drop m l) e ∙ drop-of-length-le l {i = length l} (omega arith) ∙ sym (drop-of-length-le l {i = n} (omega arith))
-
-pub drop-take : (a e : ℕ) (l : List ℕ) → drop a (take e l) ≡ take (e - a) (drop a l)
-drop-take zero e l = let same : e ≡ e - 0 = omega arith in ap (λ (n : ℕ). take n l) same
-drop-take (suc a) zero l = let none : 0 ≡ 0 - suc a = omega arith in ap (λ (n : ℕ). take n (drop (suc a) l)) none
-drop-take (suc a) (suc e) [] = sym (take-nil (suc e - suc a))
-drop-take (suc a) (suc e) (x ∷ l) = let same : e - a ≡ suc e - suc a = omega arith in drop-take a e l ∙ ap (λ (n : ℕ). take n (drop a l)) same
 
 -- A loop that answers lines.
 module _ (r : Runner) (lines : ℕ) (over : Bool) (input out₀ : List ℕ) where

@@ -12,13 +12,13 @@ use lib.Seq.{take-add, take-at, drop-append-le, drop-drop}
 use lib.Signed.{ltZ}
 use borrow.Author.Tests.{ltb-true, lt-ltb, le-ltb}
 use Rattle.io.specs.Counts.{Counts, clamped}
-use Rattle.lists.proofs.Parts.{take-min}
+use Rattle.lists.proofs.Parts.{take-min, drop-take}
 use Rattle.transcript.specs.Session.{Portion, feed, fedOf, clipped, turn, read, stop, wantedOf, sessionState, received, afterRead}
 use Rattle.runner.specs.declared.Runner.{Runner}
 use Rattle.transcript.specs.declared.Session.{Session}
 use Rattle.transcript.specs.declared.Fed.{Fed}
 use Rattle.transcript.specs.declared.Wanted.the-variants as wanted
-use Rattle.transcript.proofs.Buffers.{drop-min, drop-take}
+use Rattle.transcript.proofs.Buffers.{drop-min}
 use Rattle.transcript.proofs.Portions.{some-taken}
 
 -- The bytes at hand.

@@ -4,7 +4,7 @@
 use runner::Runner;
 ghost use mathlib.Core.Path.{_≡_};
 ghost use mathlib.Core.List.{_++_};
-ghost use Prim.Native.Nat.{_≤_, min};
+ghost use Prim.Native.Nat.{_≤_};
 ghost use lib.ListN.{length, take, drop};
 ghost use Rattle.io.specs.Counts.{Counts};
 ghost use Rattle.transcript.specs.Session.{feed, fedOf, clipped, turn, sessionState, turnOf, afterRead};
@@ -38,12 +38,6 @@ pub struct Turned {
     pub length: usize,
 }
 
-fn lesser(a: usize, b: usize) -> usize
-    ensures { λ r. ⌜ r ≡ min a b ⌝ }
-{
-    if a < b { a } else { b }
-}
-
 // Answers the lines that end in the input and, where the input is over, its last line, at the front
 // of a buffer, until none is left or the room is short of a text.
 pub fn feed(runner: Runner, lines: u64, over: bool, input: &[u8], out: &mut [u8]) -> Fed
@@ -66,7 +60,7 @@ pub fn feed(runner: Runner, lines: u64, over: bool, input: &[u8], out: &mut [u8]
         count = std::num::wrapping_add_u64(count, 1);
         let size = reply::respond(runner, count, &input[at..end], &mut out[length..]);
         length = length + size;
-        at = lesser(end + 1, input.len());
+        at = widen::lesser(end + 1, input.len());
     }
     Fed {
         count,
@@ -81,7 +75,7 @@ pub fn keep(at: usize, end: usize, buffer: &mut [u8]) -> usize
     ensures { λ r. ⌜ r ≡ length (clipped (drop at (take end (now (buffer .entry))))) ⌝ }
     ensures { λ r. ⌜ now (buffer .exit) ≡ clipped (drop at (take end (now (buffer .entry)))) ++ drop r (now (buffer .entry)) ⌝ }
 {
-    let last = lesser(end, buffer.len());
+    let last = widen::lesser(end, buffer.len());
     let mut count: usize = 0;
     let mut from = at;
     while from < last {
@@ -102,8 +96,8 @@ pub fn turn(runner: Runner, session: Session, buffer: &mut [u8], out: &mut [u8])
     ensures { λ r. ⌜ r .session .end ≤ length (now (buffer .exit)) ⌝ }
     ensures { λ r. ⌜ Counts (r .length) (now (out .exit)) ⌝ }
 {
-    let end = lesser(session.end, buffer.len());
-    let at = lesser(session.at, end);
+    let end = widen::lesser(session.end, buffer.len());
+    let at = widen::lesser(session.at, end);
     let count = session.count;
     let over = session.over;
     let fed = feed(runner, count, over, &buffer[at..end], out);
@@ -150,8 +144,8 @@ pub fn turn(runner: Runner, session: Session, buffer: &mut [u8], out: &mut [u8])
 pub fn received(session: Session, got: isize, buffer: &[u8]) -> Session
     ensures { λ r. ⌜ sessionState r (now (buffer .entry)) ≡ afterRead got (drop (session .end) (now (buffer .entry))) (sessionState session (now (buffer .entry))) ⌝ }
 {
-    let end = lesser(session.end, buffer.len());
-    let at = lesser(session.at, end);
+    let end = widen::lesser(session.end, buffer.len());
+    let at = widen::lesser(session.at, end);
     let over = session.over;
     if got < 0 {
         return Session {

@@ -21,8 +21,8 @@ abbrev μ-loop : tie.MeasureT-loop
 to-usize-requires : tie.Need-to-usize-requires Inv-loop μ-loop
 to-usize-requires c κs = search needs
 
-at-most-requires : tie.Need-at-most-requires Inv-loop μ-loop
-at-most-requires c κs = search needs
+lesser-requires : tie.Need-lesser-requires Inv-loop μ-loop
+lesser-requires c κs = search needs
 
 loop-holds : tie.Need-loop-holds Inv-loop μ-loop
 unfolding withheldMarks
@@ -62,7 +62,7 @@ first-marks-spec =
     Inv-loop
     μ-loop
     to-usize-requires
-    at-most-requires
+    lesser-requires
     loop-holds
     withheld-mark-requires
     mul-marks

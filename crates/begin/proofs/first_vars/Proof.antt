@@ -18,8 +18,8 @@ Inv-loop inputs end vars₀ j₀ vars j = (j ≤ end) × (vars ≡ take j inputs
 abbrev μ-loop : tie.MeasureT-loop
 μ-loop inputs end vars₀ j₀ vars j = end - j
 
-at-most-requires : tie.Need-at-most-requires Inv-loop μ-loop
-at-most-requires c κs = search needs
+lesser-requires : tie.Need-lesser-requires Inv-loop μ-loop
+lesser-requires c κs = search needs
 
 loop-holds : tie.Need-loop-holds Inv-loop μ-loop
 loop-holds c = search needs
@@ -59,7 +59,7 @@ first-vars-spec =
     (tie.spec
     Inv-loop
     μ-loop
-    at-most-requires
+    lesser-requires
     loop-holds
     mul-vars
     shared-slice-read-vars

@@ -5,7 +5,7 @@ use mathlib.Core.Path.{_≡_, ap, _∙_}
 use native.Mathlib.Omega.{arith}
 use borrow.Author.Needs.{needs}
 use denote.Ref.{now}
-use Rattle.format.specs.File.{refusal}
+use Rattle.block.specs.Refusing.{refusal}
 use Rattle.format.specs.declared.Checked.the-variants.{Accepted, Refused}
 use Rattle.chart.specs.WriteBack.{fileLength}
 use Rattle.convert.proofs.Answers.{untaken, untaken-is, tells-untaken, tells-room, tells-header}
@@ -31,22 +31,29 @@ to-usize-requires c κs = search needs
 first-untaken-requires : tie.Need-first-untaken-requires
 first-untaken-requires c κs = search needs
 
-cast-t8 : tie.Need-cast-t8
-cast-t8 c = search needs
+cast-new : tie.Need-cast-new
+cast-new c = search needs
+
+new-requires : tie.Need-new-requires
+new-requires c κs = search needs
 
 returns : tie.Need-returns
 returns c =
-    let a = c .before .before .before .before .before .args in
-    let is = found (c .before) in
-    ap (λ (p : ℕ). Refused (refusal 14 p)) is ∙ tells-untaken (a .header) (now (a .table)) (a .room) (omega (arith, is))
+    let a = c .before .before .before .before .before .before .args in
+    let is = found (c .before .before) in
+    ap Refused (c .new .ensures) ∙ ap (λ (p : ℕ). Refused (refusal 14 p)) is ∙ tells-untaken (a .header) (now (a .table)) (a .room) (omega (arith, is))
 
 file-length-requires : tie.Need-file-length-requires
 file-length-requires c κs = search needs
 
+new-requires-2 : tie.Need-new-requires-2
+new-requires-2 c κs = search needs
+
 returns-2 : tie.Need-returns-2
 returns-2 c =
-    let a = c .before .before .before .before .before .before .before .args in
-    tells-room (a .header) (now (a .table)) (a .room) (omega (arith, found (c .before .before .before))) (omega (arith, size (c .before)))
+    let a = c .before .before .before .before .before .before .before .before .args in
+    ap Refused (c .new2 .ensures)
+    ∙ tells-room (a .header) (now (a .table)) (a .room) (omega (arith, found (c .before .before .before .before))) (omega (arith, size (c .before .before)))
 
 returns-3 : tie.Need-returns-3
 returns-3 c =
@@ -61,8 +68,10 @@ check-chart-spec =
     in-other-requires
     to-usize-requires
     first-untaken-requires
-    cast-t8
+    cast-new
+    new-requires
     returns
     file-length-requires
+    new-requires-2
     returns-2
     returns-3)

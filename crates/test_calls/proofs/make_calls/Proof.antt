@@ -5,11 +5,11 @@ use borrow.Author.Needs.{needs}
 use Rattle.test_calls.proofs.make_calls.Statement.{statement}
 use Rattle.test_calls.proofs.make_calls.Tie as tie
 
-least-requires : tie.Need-least-requires
-least-requires c κs = search needs
+lesser-requires : tie.Need-lesser-requires
+lesser-requires c κs = search needs
 
-least-requires-2 : tie.Need-least-requires-2
-least-requires-2 c κs = search needs
+lesser-requires-2 : tie.Need-lesser-requires-2
+lesser-requires-2 c κs = search needs
 
 slice-relend-prefix-flow-script : tie.Need-slice-relend-prefix-flow-script
 slice-relend-prefix-flow-script c = search needs
@@ -39,8 +39,8 @@ pub make-calls-spec : {M : Type 1} → statement M
 make-calls-spec =
     tie.close
     (tie.spec
-    least-requires
-    least-requires-2
+    lesser-requires
+    lesser-requires-2
     slice-relend-prefix-flow-script
     slice-aggregate-flow-script
     slice-relend-prefix-flow-script-2

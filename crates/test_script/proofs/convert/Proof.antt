@@ -5,8 +5,8 @@ use borrow.Author.Needs.{needs}
 use Rattle.test_script.proofs.convert.Statement.{statement}
 use Rattle.test_script.proofs.convert.Tie as tie
 
-least-requires : tie.Need-least-requires
-least-requires c κs = search needs
+lesser-requires : tie.Need-lesser-requires
+lesser-requires c κs = search needs
 
 slice-relend-prefix-convert : tie.Need-slice-relend-prefix-convert
 slice-relend-prefix-convert c = search needs
@@ -36,7 +36,7 @@ pub convert-spec : {M : Type 1} → statement M
 convert-spec =
     tie.close
     (tie.spec
-    least-requires
+    lesser-requires
     slice-relend-prefix-convert
     slice-aggregate-convert
     convert-requires

@@ -5,8 +5,8 @@ use borrow.Author.Needs.{needs}
 use Rattle.test_script.proofs.write.Statement.{statement}
 use Rattle.test_script.proofs.write.Tie as tie
 
-least-requires : tie.Need-least-requires
-least-requires c κs = search needs
+lesser-requires : tie.Need-lesser-requires
+lesser-requires c κs = search needs
 
 slice-relend-prefix-write-back : tie.Need-slice-relend-prefix-write-back
 slice-relend-prefix-write-back c = search needs
@@ -36,7 +36,7 @@ pub write-spec : {M : Type 1} → statement M
 write-spec =
     tie.close
     (tie.spec
-    least-requires
+    lesser-requires
     slice-relend-prefix-write-back
     slice-aggregate-write-back
     write-back-requires

@@ -1,9 +1,9 @@
 -- `addend` chooses by the edition, as the definition does.
 use borrow.Author.Needs.{needs}
 use borrow.Author.Tests.{eq-eqb, ne-eqb}
-use Rattle.format.specs.Block.{addend}
-use Rattle.format.proofs.block.addend.Statement.{statement}
-use Rattle.format.proofs.block.addend.Tie as tie
+use Rattle.format.specs.File.{addend}
+use Rattle.format.proofs.addend.Statement.{statement}
+use Rattle.format.proofs.addend.Tie as tie
 
 to-u32-requires : tie.Need-to-u32-requires
 to-u32-requires c κs = search needs

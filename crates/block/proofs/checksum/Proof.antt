@@ -6,10 +6,10 @@ use native.Mathlib.Omega.{arith}
 use borrow.Author.Needs.{needs}
 use lib.ListN.{length, take, drop}
 use denote.Ref.{now}
-use Rattle.format.specs.Block.{weighted, checksum}
-use Rattle.format.proofs.Sums.{term-small, sum-more, sum-end}
-use Rattle.format.proofs.block.checksum.Statement.{statement}
-use Rattle.format.proofs.block.checksum.Tie as tie
+use Rattle.block.specs.Block.{weighted, checksum}
+use Rattle.block.proofs.Sums.{term-small, sum-more, sum-end}
+use Rattle.block.proofs.checksum.Statement.{statement}
+use Rattle.block.proofs.checksum.Tie as tie
 
 abbrev Inv-loop : tie.InvT-loop
 Inv-loop added block end sum₀ weight₀ i₀ sum weight i =
@@ -22,8 +22,8 @@ Inv-loop added block end sum₀ weight₀ i₀ sum weight i =
 abbrev μ-loop : tie.MeasureT-loop
 μ-loop added block end sum₀ weight₀ i₀ sum weight i = end - i
 
-at-most-510-requires : tie.Need-at-most-510-requires Inv-loop μ-loop
-at-most-510-requires c κs = search needs
+lesser-requires : tie.Need-lesser-requires Inv-loop μ-loop
+lesser-requires c κs = search needs
 
 cast-sum : tie.Need-cast-sum Inv-loop μ-loop
 cast-sum c = search needs
@@ -88,7 +88,7 @@ checksum-spec =
     (tie.spec
     Inv-loop
     μ-loop
-    at-most-510-requires
+    lesser-requires
     cast-sum
     loop-holds
     shared-slice-read-to-u32

@@ -8,7 +8,7 @@ use native.Mathlib.Nat.{mul-le-mul}
 use native.Mathlib.Omega.{arith}
 use lib.ListN.{length, getD, take, drop, length-take, drop-of-length-le}
 use lib.Seq.{drop-cons, getD-take, take-take}
-use Rattle.format.specs.Block.{weighted, checksum}
+use Rattle.block.specs.Block.{weighted, checksum}
 
 pub term-small : (i w b : ℕ) → i < 510 → w ≡ i + 1 → b < 256 → w * b ≤ 130050
 term-small i w b h e q = mul-le-mul {n₁ = w} {m₁ = b} {n₂ = 510} {m₂ = 255} (omega arith) (omega arith)

@@ -1,0 +1,3 @@
+-- Laws of the definitions in specs/ that the proofs cite.
+pub mod Sums
+pub mod Seals

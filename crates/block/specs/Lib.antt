@@ -1,0 +1,3 @@
+-- A block of 512 bytes with its check, and a refusal.
+pub mod Block
+pub mod Refusing
