@@ -2,8 +2,6 @@
 use Prim.Native.Nat.{ℕ}
 use mathlib.Core.Path.{_≡_}
 use mathlib.Core.List.{List, [], _∷_, _++_, map}
-use mathlib.Core.Bool.{cond}
-use lib.Dec.{eqb}
 use lib.ListN.{length, replicate}
 use Rattle.block.specs.Block.{checksum}
 use Rattle.block.specs.Refusing.{refusal}
@@ -13,7 +11,7 @@ use Rattle.format.specs.declared.Checked.the-variants.{Accepted, Refused}
 use Rattle.chart.specs.declared.Written.{Written}
 use Rattle.convert.specs.Convert.{Conversion, conversion, convert}
 use Rattle.operations.specs.Operation.{readBy, valueOf}
-use Rattle.marks.specs.Marks.{union, setBy}
+use Rattle.marks.specs.Marks.{Mode, union, byMode, setBy}
 use Rattle.marks.specs.declared.Masks.{Masks}
 use Rattle.machine.specs.Run.{Ending}
 use Rattle.begin.specs.Begin.{effective}
@@ -33,11 +31,15 @@ pub data Case : Type 0 where
   returns : (file : List ℕ) → Case
   rewrites : (file new : List ℕ) → Case
   converts : (file buffer : List ℕ) → Written → (end : List ℕ) → Case
-  runs : (file : List ℕ) (mode : ℕ) (inputs : List ℕ) (allowed limit : ℕ) → Ending → (steps : ℕ) → Case
-  runsRewritten : (file : List ℕ) (mode : ℕ) (inputs : List ℕ) (allowed limit : ℕ) → Ending → (steps : ℕ) → Case
+  runs : (file : List ℕ) (mode : Mode) (inputs : List ℕ) (allowed limit : ℕ) → Ending → (steps : ℕ) → Case
+  runsRewritten : (file : List ℕ) (mode : Mode) (inputs : List ℕ) (allowed limit : ℕ) → Ending → (steps : ℕ) → Case
   operates : (edition op left right result : ℕ) → Case
   checks : (added : ℕ) (block : List ℕ) (check : ℕ) → Case
   sets : Masks → (before : ℕ) (read : List ℕ) (set : ℕ) → Case
+
+-- "mode (0 bare, 1 surveillance, 2 high-water)": the number by which begin is asked for a mode.
+abbrev pub numberOf : Mode → ℕ
+numberOf mode = byMode mode 0 1 2
 
 -- What a case gives: the answer of the checks, a conversion, what calls tell, or a number.
 pub data Given : Type 0 where
@@ -56,9 +58,9 @@ gives (returns file) = told (tells (load file ∷ writeBack (replicate (length f
 gives (rewrites file new) = told (tells (load file ∷ rewrite ∷ writeBack (replicate (length file) 0) ∷ []) newRunner)
 gives (converts file buffer so end) = converted (convert file buffer)
 gives (runs file mode inputs allowed limit e steps) =
-    told (tells (load file ∷ begin mode inputs allowed limit ∷ advance (effective limit) ∷ answer ∷ []) newRunner)
+    told (tells (load file ∷ begin (numberOf mode) inputs allowed limit ∷ advance (effective limit) ∷ answer ∷ []) newRunner)
 gives (runsRewritten file mode inputs allowed limit e steps) =
-    told (tells (load file ∷ rewrite ∷ begin mode inputs allowed limit ∷ advance (effective limit) ∷ answer ∷ []) newRunner)
+    told (tells (load file ∷ rewrite ∷ begin (numberOf mode) inputs allowed limit ∷ advance (effective limit) ∷ answer ∷ []) newRunner)
 gives (operates edition op left right result) = number (valueOf edition op 0 (readBy edition op left right))
 gives (checks added block check) = number (checksum added block)
 gives (sets masks before read set) = number (setBy masks before (union read))
@@ -67,20 +69,10 @@ gives (sets masks before read set) = number (setBy masks before (union read))
 abbrev pub replied : List Reply → List Told
 replied rs = map (λ (x : Reply). record { reply = x; buffer = [] }) rs
 
--- "mode (0 bare, 1 surveillance, 2 high-water)".
-abbrev pub bare : ℕ
-bare = 0
-
-abbrev pub surveillance : ℕ
-surveillance = 1
-
-abbrev pub highWater : ℕ
-highWater = 2
-
 -- The steps that an advance is to tell with "ended". 02, b: "Advance in this mode tells only
 -- "ended" with 0 steps", high-water.
-abbrev stepsAtTheEnd : (mode steps : ℕ) → ℕ
-stepsAtTheEnd mode steps = cond (eqb mode highWater) 0 steps
+abbrev stepsAtTheEnd : (mode : Mode) (steps : ℕ) → ℕ
+stepsAtTheEnd mode steps = byMode mode steps steps 0
 
 -- What load tells of a file that it accepts.
 abbrev chartReply : List ℕ → Reply

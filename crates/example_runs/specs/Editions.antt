@@ -2,9 +2,10 @@
 -- what their files are answered, and that a file of edition 2 is written back to itself.
 use mathlib.Core.List.{List, [], _∷_, _++_}
 use lib.ListN.{set}
+use Rattle.marks.specs.Marks.{bare, surveillance, highWater}
 use Rattle.machine.specs.Run.{valued, notice}
 use Rattle.example_charts.specs.Charts.{block, front, assign, halt, boxesETwo, operating, sumOne, sumTwo, differenceOne, differenceTwo, zerosOne, zerosTwo, fiveBlocks, withHead}
-use Rattle.example_charts.specs.Cases.{Case, answers, returns, runs, operates, accepted, refused, bare, surveillance, highWater, Table}
+use Rattle.example_charts.specs.Cases.{Case, answers, returns, runs, operates, accepted, refused, Table}
 
 unfoldable pub editionCases : List Case
 editionCases =

@@ -5,9 +5,10 @@ use Prim.Native.Nat.{ℕ}
 use mathlib.Core.List.{List, [], _∷_, _++_}
 use Rattle.block.specs.Refusing.{refusal}
 use Rattle.chart.specs.declared.Written.the-variants.{Refused}
+use Rattle.marks.specs.Marks.{bare, surveillance, highWater}
 use Rattle.machine.specs.Run.{valued, notice, spent}
 use Rattle.example_charts.specs.Charts.{block, front, assign, decide, choice, halt, withHalt, chartChoice, oneInput, chartFork, chartForkNew, between, turn, chartTurns, chartNever}
-use Rattle.example_charts.specs.Cases.{Case, answers, returns, rewrites, converts, runs, runsRewritten, accepted, refused, bare, surveillance, highWater, Table}
+use Rattle.example_charts.specs.Cases.{Case, answers, returns, rewrites, converts, runs, runsRewritten, accepted, refused, Table}
 
 abbrev copy18 : List ℕ
 copy18 = assign 17 1 18 0 3 0
