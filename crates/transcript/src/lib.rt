@@ -7,7 +7,7 @@ ghost use mathlib.Core.List.{_++_};
 ghost use Prim.Native.Nat.{_≤_};
 ghost use lib.ListN.{length, take, drop};
 ghost use Rattle.io.specs.Counts.{Counts};
-ghost use Rattle.transcript.specs.Session.{feed, fedOf, kept, turn, sessionState, turnOf, afterRead};
+ghost use Rattle.transcript.specs.Session.{feed, fedOf, clipped, turn, sessionState, turnOf, afterRead};
 
 // The number of lines so far, how many bytes of input were taken, and the length of the text.
 pub struct Fed {
@@ -72,8 +72,8 @@ pub fn feed(runner: Runner, lines: u64, over: bool, input: &[u8], out: &mut [u8]
 // Moves a line that has not ended, the bytes from `at` to `end`, to the front of a buffer, 256 of
 // them at most, and answers how many.
 pub fn keep(at: usize, end: usize, buffer: &mut [u8]) -> usize
-    ensures { λ r. ⌜ r ≡ length (kept (drop at (take end (now (buffer .entry))))) ⌝ }
-    ensures { λ r. ⌜ now (buffer .exit) ≡ kept (drop at (take end (now (buffer .entry)))) ++ drop r (now (buffer .entry)) ⌝ }
+    ensures { λ r. ⌜ r ≡ length (clipped (drop at (take end (now (buffer .entry))))) ⌝ }
+    ensures { λ r. ⌜ now (buffer .exit) ≡ clipped (drop at (take end (now (buffer .entry)))) ++ drop r (now (buffer .entry)) ⌝ }
 {
     let last = widen::lesser(end, buffer.len());
     let mut count: usize = 0;
