@@ -1,13 +1,13 @@
 -- Laws of sealed blocks: what the two bytes of the check are, that a body and its check are sealed,
--- and what sealing leaves of a block: its bytes 0 to 509 and their check, and all past them.
+-- and that a block of 512 bytes with its check put in is its bytes 0 to 509 and their check.
 -- sealed-bytes; seal-seals; sealed-block. Assumes nothing.
-use Prim.Native.Nat.{ℕ, _+_, _/_, _%_, _≤_}
+use Prim.Native.Nat.{ℕ, _+_, _/_, _%_}
 use mathlib.Core.Path.{_≡_, refl, ap, ap₂, sym, _∙_}
-use mathlib.Core.List.{List, [], _∷_, _++_, append-assoc}
+use mathlib.Core.List.{List, [], _∷_, _++_}
 use mathlib.Core.Bool.{true}
 use native.Mathlib.Omega.{arith}
 use lib.Dec.{eqb}
-use lib.ListN.{length, take, drop, set, length-set}
+use lib.ListN.{length, take, set, length-set, drop-of-length-le}
 use lib.Seq.{take-at, getD-at, getD-append-add, set-split, take-suc-set, drop-set-lt, append-snoc}
 use borrow.Author.Tests.{eqb-true, eq-eqb}
 use Rattle.boxes.specs.Bytes.{at}
@@ -34,15 +34,14 @@ seal-seals added body long =
     let second : at block 511 ≡ high = ap (at block) (sym next) ∙ getD-append-add body (low ∷ high ∷ []) 1 0 in
     rw (same, first, second, eq-eqb low low refl) (eq-eqb high high refl)
 
-pub sealed-block : (added : ℕ) (block : List ℕ) → 512 ≤ length block → sealed added block ≡ seal added (take 510 block) ++ drop 512 block
+pub sealed-block : (added : ℕ) (block : List ℕ) → length block ≡ 512 → sealed added block ≡ seal added (take 510 block)
 unfolding sealed seal
 sealed-block added block long =
     let low = checksum added block % 256 in
     let high = checksum added block / 256 in
     let body : List ℕ = take 510 block in
-    let rest : List ℕ = drop 512 block in
     set-split (set block 510 low) 511 high (omega (arith, length-set block 510 low))
-    ∙ ap₂ (λ (p : List ℕ) (q : List ℕ). p ++ high ∷ q) (take-suc-set block 510 low (omega arith)) (drop-set-lt 512 block 510 low (omega arith))
-    ∙ append-snoc body low (high ∷ rest)
-    ∙ sym (append-assoc body (low ∷ high ∷ []) rest)
-    ∙ ap (λ (c : ℕ). body ++ (c % 256 ∷ c / 256 ∷ []) ++ rest) (sym (check-front added block))
+    ∙ ap₂ (λ (p : List ℕ) (q : List ℕ). p ++ high ∷ q) (take-suc-set block 510 low (omega arith))
+    (drop-set-lt 512 block 510 low (omega arith) ∙ drop-of-length-le block {i = 512} (omega arith))
+    ∙ append-snoc body low (high ∷ [])
+    ∙ ap (λ (c : ℕ). body ++ (c % 256 ∷ c / 256 ∷ [])) (sym (check-front added block))

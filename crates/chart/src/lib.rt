@@ -54,7 +54,7 @@ fn write_block(part: &mut [u8], added: u32, body: &[u8])
     ensures { λ _. ⌜ now (part .exit) ≡ seal added (now (body .entry)) ++ drop 512 (now (part .entry)) ⌝ }
 {
     bytes::copy(body, part);
-    block::seal(added, part);
+    block::seal(added, &mut part[..512]);
 }
 
 fn header_body(header: Header) -> [u8; 510]

@@ -3,6 +3,7 @@ use block::Refusal;
 ghost use mathlib.Core.Path.{_≡_};
 ghost use Prim.Native.Nat.{ℕ, _+_, _*_, _<_, _≤_};
 ghost use lib.ListN.{length};
+ghost use Rattle.block.specs.Refusing.{refusal};
 ghost use Rattle.format.specs.Search.{firstFailing};
 ghost use Rattle.format.specs.File.{addend, placeStart, blocksFor, lengthRule, checkRule, lettersRule, headerOf, inRange, headerRule, placeRule, checkFile};
 
@@ -18,6 +19,12 @@ pub struct Header {
 pub enum Checked {
     Accepted(Header),
     Refused(Refusal),
+}
+
+fn refused_by(number: u32, detail: u32) -> Checked
+    ensures { λ r. ⌜ r ≡ Checked.Refused (refusal number detail) ⌝ }
+{
+    Checked::Refused(Refusal { number, detail })
 }
 
 fn length_holds(len: usize) -> bool
@@ -144,27 +151,27 @@ pub fn check_file(file: &[u8]) -> Checked
 {
     let len = file.len();
     if !length_holds(len) {
-        return Checked::Refused(Refusal::new(1, 0));
+        return refused_by(1, 0);
     }
     let blocks = len / 512;
     let header = header_of(file);
     let wrong = first_wrong(file, header, blocks);
     if wrong < blocks {
-        return Checked::Refused(Refusal::new(2, wrong as u32));
+        return refused_by(2, wrong as u32);
     }
     if !letters_hold(file) {
-        return Checked::Refused(Refusal::new(3, 0));
+        return refused_by(3, 0);
     }
     if !header_holds(file) {
-        return Checked::Refused(Refusal::new(4, 0));
+        return refused_by(4, 0);
     }
     if blocks != blocks_for(header.boxes) {
-        return Checked::Refused(Refusal::new(5, 0));
+        return refused_by(5, 0);
     }
     let places = 51 * (blocks - 1);
     let broken = first_broken(file, header, places);
     if broken < places {
-        return Checked::Refused(Refusal::new(6, broken as u32));
+        return refused_by(6, broken as u32);
     }
     Checked::Accepted(header)
 }

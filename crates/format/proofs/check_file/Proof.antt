@@ -61,11 +61,11 @@ broken-is c =
 length-holds-requires : tie.Need-length-holds-requires
 length-holds-requires c κs = search needs
 
-new-requires : tie.Need-new-requires
-new-requires c κs = search needs
+refused-by-requires : tie.Need-refused-by-requires
+refused-by-requires c κs = search needs
 
 returns : tie.Need-returns
-returns c = ap Refused (c .new .ensures) ∙ tells-length _ (sym (c .before .before .length-holds .ensures) ∙ not-true _ (c .before .if1 .taken))
+returns c = c .refused-by .ensures ∙ tells-length _ (sym (c .before .before .length-holds .ensures) ∙ not-true _ (c .before .if1 .taken))
 
 header-of-requires : tie.Need-header-of-requires
 header-of-requires c κs = let b = whole c in search needs
@@ -73,49 +73,49 @@ header-of-requires c κs = let b = whole c in search needs
 first-wrong-requires : tie.Need-first-wrong-requires
 first-wrong-requires c κs = let b = whole (c .before) in search needs
 
-cast-new : tie.Need-cast-new
-cast-new c = let b = whole (c .before .before .before) in omega arith
+cast-refused-by : tie.Need-cast-refused-by
+cast-refused-by c = let b = whole (c .before .before .before) in omega arith
 
-new-requires-2 : tie.Need-new-requires-2
-new-requires-2 c κs = search needs
+refused-by-requires-2 : tie.Need-refused-by-requires-2
+refused-by-requires-2 c κs = search needs
 
 returns-2 : tie.Need-returns-2
 returns-2 c =
-    ap Refused (c .new2 .ensures)
+    c .refused-by2 .ensures
     ∙ ap (λ (n : ℕ). Refused (refusal 2 n)) (wrong-is (c .before .before))
     ∙ tells-check _ (one (c .before .before .before .before)) (omega (arith, wrong-is (c .before .before), c .before .if2 .taken))
 
 letters-hold-requires : tie.Need-letters-hold-requires
 letters-hold-requires c κs = let b = whole (c .before .before .before) in search needs
 
-new-requires-3 : tie.Need-new-requires-3
-new-requires-3 c κs = search needs
+refused-by-requires-3 : tie.Need-refused-by-requires-3
+refused-by-requires-3 c κs = search needs
 
 returns-3 : tie.Need-returns-3
 returns-3 c =
     let wrong = sym (c .before .before .letters-hold .ensures) ∙ not-true _ (c .before .if3 .taken) in
-    ap Refused (c .new3 .ensures) ∙ tells-letters _ (one (c .before .before .before .before .before .before)) (two (c .before .before .before)) wrong
+    c .refused-by3 .ensures ∙ tells-letters _ (one (c .before .before .before .before .before .before)) (two (c .before .before .before)) wrong
 
 header-holds-requires : tie.Need-header-holds-requires
 header-holds-requires c κs = let b = whole (c .before .before .before .before .before) in search needs
 
-new-requires-4 : tie.Need-new-requires-4
-new-requires-4 c κs = search needs
+refused-by-requires-4 : tie.Need-refused-by-requires-4
+refused-by-requires-4 c κs = search needs
 
 returns-4 : tie.Need-returns-4
 returns-4 c =
     let else3 = c .before .before .before in
     let wrong = sym (c .before .before .header-holds .ensures) ∙ not-true _ (c .before .if4 .taken) in
-    ap Refused (c .new4 .ensures) ∙ tells-header _ (one (else3 .before .before .before .before .before)) (two (else3 .before .before)) (three else3) wrong
+    c .refused-by4 .ensures ∙ tells-header _ (one (else3 .before .before .before .before .before)) (two (else3 .before .before)) (three else3) wrong
 
 blocks-for-requires : tie.Need-blocks-for-requires
 blocks-for-requires c κs = search needs
 
-new-requires-5 : tie.Need-new-requires-5
-new-requires-5 c κs = search needs
+refused-by-requires-5 : tie.Need-refused-by-requires-5
+refused-by-requires-5 c κs = search needs
 
 returns-5 : tie.Need-returns-5
-returns-5 c = ap Refused (c .new5 .ensures) ∙ tells-size _ (past (c .before .before .before)) (λ e. c .before .if5 .taken (e ∙ sym (size-is (c .before .before))))
+returns-5 c = c .refused-by5 .ensures ∙ tells-size _ (past (c .before .before .before)) (λ e. c .before .if5 .taken (e ∙ sym (size-is (c .before .before))))
 
 sub-places : tie.Need-sub-places
 sub-places c = search needs
@@ -126,15 +126,15 @@ mul-places c = search needs
 first-broken-requires : tie.Need-first-broken-requires
 first-broken-requires c κs = search needs
 
-cast-new-2 : tie.Need-cast-new-2
-cast-new-2 c = search needs
+cast-refused-by-2 : tie.Need-cast-refused-by-2
+cast-refused-by-2 c = search needs
 
-new-requires-6 : tie.Need-new-requires-6
-new-requires-6 c κs = search needs
+refused-by-requires-6 : tie.Need-refused-by-requires-6
+refused-by-requires-6 c κs = search needs
 
 returns-6 : tie.Need-returns-6
 returns-6 c =
-    ap Refused (c .new6 .ensures)
+    c .refused-by6 .ensures
     ∙ ap (λ (n : ℕ). Refused (refusal 6 n)) (broken-is (c .before .before))
     ∙ tells-place _ (past (c .before .before .before .before .before)) (five (c .before .before .before))
     (omega (arith, broken-is (c .before .before), c .before .if6 .taken))
@@ -149,26 +149,26 @@ check-file-spec =
     tie.close
     (tie.spec
     length-holds-requires
-    new-requires
+    refused-by-requires
     returns
     header-of-requires
     first-wrong-requires
-    cast-new
-    new-requires-2
+    cast-refused-by
+    refused-by-requires-2
     returns-2
     letters-hold-requires
-    new-requires-3
+    refused-by-requires-3
     returns-3
     header-holds-requires
-    new-requires-4
+    refused-by-requires-4
     returns-4
     blocks-for-requires
-    new-requires-5
+    refused-by-requires-5
     returns-5
     sub-places
     mul-places
     first-broken-requires
-    cast-new-2
-    new-requires-6
+    cast-refused-by-2
+    refused-by-requires-6
     returns-6
     returns-7)
