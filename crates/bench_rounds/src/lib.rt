@@ -1,7 +1,7 @@
 // For the benchmark, to be timed: many rounds of one call; what each tells is folded into a sum.
 // The functions have no equations: the benchmark compares the sums with those of plain Rust.
-use runner::Runner;
 use encoding::Encoded;
+use runner::Runner;
 ghost use Prim.Native.Nat.{_≤_};
 
 fn fold(sum: u64, word: u64) -> u64 {

@@ -1,6 +1,6 @@
 -- Laws of sealed blocks: what the two bytes of the check are, that a body and its check are sealed,
 -- and that a block of 512 bytes with its check put in is its bytes 0 to 509 and their check.
--- sealed-bytes; seal-seals; sealed-block. Assumes nothing.
+-- sealed-bytes; seal-seals; with-seal-block. Assumes nothing.
 use Prim.Native.Nat.{ℕ, _+_, _/_, _%_}
 use mathlib.Core.Path.{_≡_, refl, ap, ap₂, sym, _∙_}
 use mathlib.Core.List.{List, [], _∷_, _++_}
@@ -12,7 +12,7 @@ use lib.Seq.{take-at, getD-at, getD-append-add, set-split, take-suc-set, drop-se
 use borrow.Author.Tests.{eqb-true, eq-eqb}
 use Rattle.boxes.specs.Bytes.{at}
 use Rattle.boxes.proofs.Bools.{and-left, and-right}
-use Rattle.block.specs.Block.{checksum, isSealed, sealed, seal}
+use Rattle.block.specs.Block.{checksum, isSealed, withSeal, seal}
 use Rattle.block.proofs.Sums.{check-front}
 
 pub sealed-bytes : (added : ℕ) (block : List ℕ) → isSealed added block ≡ true → (checksum added block % 256 ≡ at block 510) × (checksum added block / 256 ≡ at block 511)
@@ -34,9 +34,9 @@ seal-seals added body long =
     let second : at block 511 ≡ high = ap (at block) (sym next) ∙ getD-append-add body (low ∷ high ∷ []) 1 0 in
     rw (same, first, second, eq-eqb low low refl) (eq-eqb high high refl)
 
-pub sealed-block : (added : ℕ) (block : List ℕ) → length block ≡ 512 → sealed added block ≡ seal added (take 510 block)
-unfolding sealed seal
-sealed-block added block long =
+pub with-seal-block : (added : ℕ) (block : List ℕ) → length block ≡ 512 → withSeal added block ≡ seal added (take 510 block)
+unfolding withSeal seal
+with-seal-block added block long =
     let low = checksum added block % 256 in
     let high = checksum added block / 256 in
     let body : List ℕ = take 510 block in

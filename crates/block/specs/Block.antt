@@ -1,6 +1,6 @@
 -- "In each block, bytes 510 and 511 (low byte first) hold the check: the sum over bytes 0 to 509 of
 -- (position + 1) times byte, modulo 65,536." 02, d, has a check that adds a number "before the
--- modulus is taken". All of it is of any bytes; a block has 512.
+-- modulus is taken". The definitions are of any bytes; a block has 512.
 use Prim.Native.Nat.{ℕ, _+_, _*_, _/_, _%_}
 use mathlib.Core.List.{List, [], _∷_, _++_}
 use mathlib.Core.Bool.{Bool, _&&_}
@@ -22,8 +22,8 @@ unfoldable pub isSealed : (added : ℕ) → List ℕ → Bool
 isSealed added block = eqb (at block 510) (checksum added block % 256) && eqb (at block 511) (checksum added block / 256)
 
 -- The block with its check, with so much added, in bytes 510 and 511, where it has them.
-unfoldable pub sealed : (added : ℕ) → List ℕ → List ℕ
-sealed added block = set (set block 510 (checksum added block % 256)) 511 (checksum added block / 256)
+unfoldable pub withSeal : (added : ℕ) → List ℕ → List ℕ
+withSeal added block = set (set block 510 (checksum added block % 256)) 511 (checksum added block / 256)
 
 -- The block whose bytes 0 to 509 are these: they and their check, with so much added.
 unfoldable pub seal : (added : ℕ) → List ℕ → List ℕ

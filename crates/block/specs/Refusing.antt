@@ -7,7 +7,7 @@ use Rattle.block.specs.declared.Refusal.{Refusal}
 abbrev pub refusal : (number detail : ℕ) → Refusal
 refusal number detail = record { number = number; detail = detail }
 
--- A rule in a list of checks. Where it is broken, the list answers a refusal, as it puts one into
--- its answers; else the rest of the list answers.
+-- A rule in a list of checks: where it is broken the list answers a refusal, and else the rest of
+-- the list answers.
 abbrev pub refuseInto : {A : Type 0} → (refused : Refusal → A) → (broken : Bool) (number detail : ℕ) → A → A
 refuseInto refused broken number detail otherwise = cond broken (refused (refusal number detail)) otherwise

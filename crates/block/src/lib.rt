@@ -3,7 +3,7 @@
 ghost use mathlib.Core.Path.{_≡_};
 ghost use lib.ListN.{set};
 ghost use Rattle.boxes.specs.Bytes.{at};
-ghost use Rattle.block.specs.Block.{checksum, isSealed, sealed};
+ghost use Rattle.block.specs.Block.{checksum, isSealed, withSeal};
 ghost use Rattle.block.specs.Refusing.{refusal};
 
 // A refusal, by document 01's number and detail.
@@ -68,7 +68,7 @@ fn put(block: &mut [u8], i: usize, b: u8)
 // The block's check, with so much added, into its bytes 510 and 511, low byte first, where it has
 // them. All else stays.
 pub fn seal(added: u32, block: &mut [u8])
-    ensures { λ _. ⌜ now (block .exit) ≡ sealed added (now (block .entry)) ⌝ }
+    ensures { λ _. ⌜ now (block .exit) ≡ withSeal added (now (block .entry)) ⌝ }
 {
     let check = checksum(added, block);
     put(block, 510, (check % 256) as u8);

@@ -21,10 +21,11 @@ use Rattle.runner.specs.State.{chartIn, flowchartIn, flowIn, ran, resumed}
 use Rattle.runner.specs.Outcomes.{call}
 use Rattle.call_claims.specs.Lists.{Accepted}
 use Rattle.call_claims.specs.Demand3.{tellsValue, AnswersAsHighWater, Demand3}
+use Rattle.call_claims.specs.Parameters.{HalvesByParameters}
 use Rattle.call_claims.proofs.Continuing.{over-answers, over-tells, answered-over, ran-over, value-inside, final-from}
 use Rattle.call_claims.proofs.Answering.{list-tells}
 use Rattle.call_claims.proofs.OneChart.{one-chart}
-use Rattle.call_claims.proofs.Secrecy.{begin-permits, begin-starts, started, starts-same, noninterference}
+use Rattle.call_claims.proofs.Secrecy.{begin-permits, begin-starts, started, starts-same, guarded-secret, noninterference}
 
 -- A surveillance run that is over has the value that the high-water run came to, whatever the
 -- boxes.
@@ -66,3 +67,7 @@ answers-as-high-water r r′ made made′ one inputs allowed limit limit′ a a�
 
 pub demand3 : Demand3
 demand3 = (noninterference, answers-as-high-water)
+
+pub halves-by-parameters : HalvesByParameters
+halves-by-parameters =
+    (guarded-secret, λ r r′ inputs allowed limit limit′ b. answers-as-high-water r r′ (b .made) (b .made′) (b .one-chart) inputs allowed limit limit′ (b .accepted) (b .accepted′) (b .limits))

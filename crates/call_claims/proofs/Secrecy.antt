@@ -9,7 +9,7 @@ use Rattle.marks.specs.Marks.{Mode, modeOf}
 use Rattle.begin.specs.Begin.{effective, firstVars}
 use Rattle.begin.proofs.Begins.{effective-positive}
 use Rattle.runs.specs.Whole.{startOf}
-use Rattle.run_claims.specs.Secrecy.{AllowedAlike, Fits}
+use Rattle.run_claims.specs.Secrecy.{Guarded, AllowedAlike, Fits}
 use Rattle.run_claims.proofs.Low.{Watched, start-agrees, guarded-watches}
 use Rattle.calls.specs.Calls.{begin}
 use Rattle.calls.proofs.Permits.{Permitted, permitted}
@@ -64,7 +64,10 @@ module _ (mode : ℕ) {m : Mode} (guards : Watched m (modeOf mode) 0) where
       ∙ ap (tells cs) (starts-same mode inputs′ allowed (effective limit) (effective limit′) c (b .limits))
       ∙ sym (ap (tells cs) (begin-starts mode inputs′ allowed limit′ r′ (b .accepted′)))
 
+pub guarded-secret : (mode : ℕ) → Guarded (modeOf mode) → Secrecy mode mode SameLimit
+guarded-secret mode guards = secret mode (guarded-watches guards .1)
+
 pub noninterference : Noninterference
 noninterference r r′ made made′ one mode guards inputs inputs′ allowed limit limit′ a a′ limits alike =
-    secret mode (guarded-watches guards .1) r r′ inputs inputs′ allowed limit limit′
+    guarded-secret mode guards r r′ inputs inputs′ allowed limit limit′
     (record { made = made; made′ = made′; one-chart = one; limits = limits; accepted = a; accepted′ = a′ }) alike

@@ -44,7 +44,7 @@ abbrev pub HeldObeys : Type 0
 HeldObeys = (r : Runner) → Reached r → isHeld r ≡ true → Obeys (r .header) (r .table)
 
 -- A run under way on a chart is at one of its boxes, below a limit that can be set, with 32
--- variables and marks. So the answers that the definitions give elsewhere are never met.
+-- variables and marks.
 pub record RunInRange (h : Header) (q : Run) : Type 0 where
   pub at : q .at < h .boxes
   pub below : q .steps < q .limit
@@ -57,7 +57,8 @@ abbrev pub InputsOf : Header → ℕ → Type 0
 InputsOf h set = set < 2 ^ h .inputs
 
 -- A run under way is on the chart held, in a mode that there is, its marks are sets of the chart's
--- inputs, and there is no earlier ending.
+-- inputs, and there is no earlier ending. So the answers that the definitions give elsewhere are
+-- never met.
 pub record UnderWay (r : Runner) : Type 0 where
   pub held : isHeld r ≡ true
   pub mode : r .mode ≤ 2

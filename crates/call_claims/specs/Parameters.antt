@@ -1,10 +1,11 @@
 -- Demand 3 with its modes and what relates its limits as parameters, so that what it would say of
--- others can be refuted. At the parameters of demand 3 each is the half of that name.
+-- others can be refuted; and that at its own it holds.
 use Prim.Native.Nat.{ℕ}
 use mathlib.Core.Path.{_≡_}
 use mathlib.Core.List.{List}
+use Rattle.marks.specs.Marks.{modeOf}
 use Rattle.begin.specs.Begin.{effective}
-use Rattle.run_claims.specs.Secrecy.{AllowedAlike}
+use Rattle.run_claims.specs.Secrecy.{Guarded, AllowedAlike}
 use Rattle.calls.specs.Calls.{Call, begin}
 use Rattle.runner.specs.declared.Runner.{Runner}
 use Rattle.call_claims.specs.Lists.{Reached, Accepted, begun, tells}
@@ -39,3 +40,7 @@ AnswersAs mode Limits =
     → (v steps : ℕ)
     → SomeAnswer (begun mode inputs allowed limit r) v steps
     → AnswersAlways (begun 1 inputs allowed limit′ r′) (effective limit′) v steps
+
+-- At demand 3's own parameters: one mode that guards on both sides, and high-water.
+abbrev pub HalvesByParameters : Type 0
+HalvesByParameters = ((mode : ℕ) → Guarded (modeOf mode) → Secrecy mode mode SameLimit) × AnswersAs 2 SameLimit

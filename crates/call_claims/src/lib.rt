@@ -1,5 +1,6 @@
 // Claims about the calls of the runner, in specs/ and proofs/, and one function that holds them.
 ghost use Rattle.call_claims.specs.Demand3.{Demand3};
+ghost use Rattle.call_claims.specs.Parameters.{HalvesByParameters};
 ghost use Rattle.call_claims.specs.OneFile.{OneFile};
 ghost use Rattle.call_claims.specs.Runs.{RefusalChangesNothing, AdvancesJoin, CountsBoxes, LimitEnds, OneAdvanceEnds, TellsWholeRun, WithinLimit, Cleared};
 ghost use Rattle.call_claims.specs.Charts.{HeldObeys, RunsInRange, EndsInRange, LoadedIsWritten, WrittenIsLoaded};
@@ -12,7 +13,7 @@ ghost use Rattle.call_claims.specs.Bounds.{AnswersAtTheLimit, RunsWithin
 // theorems could be deleted, and nothing would fail.
 pub fn promised()
     ensures { λ _. ⌜
-        Demand3 × OneFile × RefusalChangesNothing × AdvancesJoin
+        Demand3 × HalvesByParameters × OneFile × RefusalChangesNothing × AdvancesJoin
         × CountsBoxes × LimitEnds × OneAdvanceEnds × TellsWholeRun × WithinLimit × Cleared
         × HeldObeys × RunsInRange × EndsInRange × LoadedIsWritten × WrittenIsLoaded × RepliesDistinct
         × MarksWithheld × NamesWithheld × SurveillanceNames × OthersNameNone × HighWaterTells × HighWaterAnswers × HighWaterEnds

@@ -8,8 +8,8 @@ use native.Mathlib.Omega.{arith}
 use lib.ListN.{length, take, drop, length-append, length-drop}
 use lib.Seq.{length-take-le, take-at, take-take, drop-drop, drop-append-add}
 use Rattle.boxes.specs.Bytes.{part}
-use Rattle.block.specs.Block.{sealed, seal}
-use Rattle.block.proofs.Seals.{sealed-block}
+use Rattle.block.specs.Block.{withSeal, seal}
+use Rattle.block.proofs.Seals.{with-seal-block}
 use Rattle.format.specs.File.{addend}
 use Rattle.format.specs.declared.Header.{Header}
 use Rattle.chart.specs.Chart.{headerBody, bodyOf, sealedBlock}
@@ -34,13 +34,13 @@ module _ (body d e : List ℕ) (lb : length body ≡ 510) (ld : 512 ≤ length d
   pub length-lent : length (take 512 e) ≡ 512
   length-lent = length-take-le 512 e (omega (arith, ap length ee, length-append body (drop 510 d), length-drop 510 d))
 
-  pub sealed-part : (added : ℕ) {block : List ℕ} → block ≡ sealed added (take 512 e) → block ++ drop 512 e ≡ seal added body ++ drop 512 d
+  pub sealed-part : (added : ℕ) {block : List ℕ} → block ≡ withSeal added (take 512 e) → block ++ drop 512 e ≡ seal added body ++ drop 512 d
   sealed-part added eb =
       let rest : List ℕ = drop 510 d in
       let two : 512 ≡ length body + 2 = omega arith in
       let front : take 510 (take 512 e) ≡ body = take-take 510 512 e (omega arith) ∙ ap (take 510) ee ∙ take-at body rest 510 lb in
       let past : drop 512 e ≡ drop 512 d = ap (drop 512) ee ∙ ap (λ (n : ℕ). drop n (body ++ rest)) two ∙ drop-append-add body rest 2 ∙ drop-drop 2 510 d in
-      ap₂ (λ (p : List ℕ) (q : List ℕ). p ++ q) (eb ∙ sealed-block added (take 512 e) length-lent ∙ ap (seal added) front) past
+      ap₂ (λ (p : List ℕ) (q : List ℕ). p ++ q) (eb ∙ with-seal-block added (take 512 e) length-lent ∙ ap (seal added) front) past
 
 module _ (h : Header) (table : List ℕ) (j : ℕ) where
   pub body-first : j ≡ 0 → headerBody h ≡ bodyOf h table j

@@ -1,5 +1,5 @@
 -- What load's input checks answer: charts A to E, and files that break one rule each or several.
--- Files of edition 2 are in `Editions.antt` and `Checks.antt`.
+-- Files of edition 2 are in `Checks.antt`, and in `Editions.antt` of `example_runs`.
 use Prim.Native.Nat.{ℕ}
 use mathlib.Core.List.{List, [], _∷_, _++_}
 use lib.ListN.{take, replicate, set}

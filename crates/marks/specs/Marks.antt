@@ -15,7 +15,7 @@ pub data Mode : Type 0 where
   surveillance : Mode
   highWater : Mode
 
--- The mode of a number. No begin with a greater number is accepted; it would read as high-water.
+-- The mode of a number. No begin with a number above 2 is accepted; it would read as high-water.
 unfoldable pub modeOf : ℕ → Mode
 modeOf number = cond (eqb number 0) bare (cond (eqb number 1) surveillance highWater)
 

@@ -14,6 +14,7 @@ use lib.Dec.{eqb, ltb, leb}
 use lib.ListN.{getD, set, List·getD-map}
 use lib.Pow.{pow-pos}
 use borrow.Author.Tests.{lt-ltb, le-ltb, ne-eqb}
+use Rattle.boxes.proofs.Bools.{and-true}
 use Rattle.decode.specs.Decode.{Box, assigns, decides, halts}
 use Rattle.marks.specs.Marks.{Mode, marked, union, decisionNotice, haltNotice}
 use Rattle.marks.proofs.MarkLaws.{marked-or, by-mode, by-map, set-surveillance, set-high-water, set-by-mode}
@@ -66,10 +67,6 @@ module _ (sees : ℕ → Bool) (none : sees 0 ≡ false) (join : (a b : ℕ) →
 
 alone-marked : (j : ℕ) → marked (2 ^ j) ≡ true
 alone-marked j = rw (ne-eqb (2 ^ j) 0 (λ e. omega (arith, pow-pos j)))
-
-and-true : (b : Bool) → (b && true) ≡ b
-and-true true = refl
-and-true false = refl
 
 pub empty-where-unmarked : EmptyWhereUnmarked
 empty-where-unmarked = (

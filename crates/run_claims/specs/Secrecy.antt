@@ -21,12 +21,13 @@ Guarded mode = (mode ≡ surveillance) ⊎ (mode ≡ highWater)
 abbrev pub AllowedAlike : ℕ → List ℕ → List ℕ → Type 0
 AllowedAlike allowed inputs inputs′ = (j : ℕ) → allows allowed j ≡ true → getD inputs j 0 ≡ getD inputs′ j 0
 
--- The inputs are as many as the flowchart has, at most 16.
+-- The inputs are as many as the flowchart has, at most 16, as begin asks.
 abbrev pub Fits : Flowchart → List ℕ → Type 0
 Fits c inputs = (c .inputs ≤ 16) × (length inputs ≡ c .inputs)
 
 -- Two whole runs in one mode that guards, "with the same allowed set, step limit and allowed
--- inputs": the ending, its value or the set that it names, and the steps are the same.
+-- inputs": the ending, its value or the set that it names, and the steps are the same. The limit is
+-- the number that it means.
 abbrev pub RunsAreSecret : Type 0
 RunsAreSecret =
     (c : Flowchart) (mode : Mode) (inputs inputs′ : List ℕ) (allowed limit : ℕ)

@@ -1,4 +1,5 @@
--- Claims about the marks as sets of withheld inputs (02, a) and about how they are set (02, e).
+-- Claims about the marks as sets of withheld inputs (02, a) and about how they are set (02, e); and
+-- what may hold of all the sets of a run, by which claims about calls speak of them.
 use Prim.Native.Nat.{ℕ, _^_, _≤_, _<_}
 use mathlib.Core.Path.{_≡_}
 use mathlib.Core.List.{List, [], _∷_, map}
@@ -76,8 +77,8 @@ UnionAndKept =
     ((keep : ℕ) → has (setMark keep before (union read)) j ≡ (isRead || (has before j && has keep j)))
     × ((masks : Masks) → has (setBy masks before (union read)) j ≡ ((isRead && has (masks .take) j) || (has before j && has (masks .keep) j)))
 
--- A number with one bit keeps that input alone of the old set, and two sets read are there whole:
--- `UnionAndKept` at its exact bounds.
+-- `UnionAndKept` of a number with one bit, which keeps that input alone of the old set, and of two
+-- sets read, which are there whole.
 abbrev pub KeepsOneInput : Type 0
 KeepsOneInput =
     (i before a b j : ℕ)

@@ -22,7 +22,8 @@ chartIn r = record { header = r .header; table = r .table }
 abbrev pub isHeld : Runner → Bool
 isHeld r = inRange (r .header)
 
--- The states: no run, a run under way, and an ended run, by the kind of its ending.
+-- The states: no run, a run under way, and an ended run, by the kind of its ending. No call leaves
+-- a greater one; it would read as spent.
 abbrev pub noRunState : ℕ
 noRunState = 0
 
@@ -52,6 +53,7 @@ leastIn r = cond (hides (modeOf (r .mode))) (r .limit) 0
 abbrev pub standingOf : Runner → Standing
 standingOf r = record { header = r .header; running = isRunning r; least = leastIn r; ended = isEnded r }
 
+-- The state of an ending.
 abbrev pub stateOf : Ending → ℕ
 stateOf (valued v) = valueState
 stateOf (notice named) = noticeState

@@ -21,9 +21,13 @@ ghost use Rattle.runner.specs.Replies.{loadReply, verdictReply, advanceR
 // The states of a runner: no run, a run under way, and a run that has ended with a value, a notice
 // or spent.
 const NO_RUN: u8 = 0;
+
 const RUNNING: u8 = 1;
+
 const VALUE: u8 = 2;
+
 const NOTICE: u8 = 3;
+
 const SPENT: u8 = 4;
 
 // The chart that is held: its header and the box table. Of a run under way: the counter mark, the
@@ -397,7 +401,11 @@ fn disclose(hidden: bool, state: u8, total: u32, named: u16) -> Remains
         (let own : Remains = record { state = state; total = total; named = named } in cond (eqb state valueState) own (cond hidden (record { state = noticeState; total = 0; named = 0 }) own)) ⌝ }
 {
     if state == VALUE {
-        return Remains { state, total, named };
+        return Remains {
+            state,
+            total,
+            named,
+        };
     }
     if hidden {
         return Remains {
@@ -406,7 +414,11 @@ fn disclose(hidden: bool, state: u8, total: u32, named: u16) -> Remains
             named: 0,
         };
     }
-    Remains { state, total, named }
+    Remains {
+        state,
+        total,
+        named,
+    }
 }
 
 // What advance tells by the verdict on it, of a run that has come to state `end` where it was

@@ -5,12 +5,12 @@ use crate::made::advance;
 use crate::made::begin;
 use crate::made::load;
 use crate::pair::Pair;
+use encoding::kinds;
 use runner::Runner;
 use test_samples::arguments;
 use test_samples::arguments::first_inputs;
 use test_samples::files::byte;
 use test_text::text::part;
-use encoding::kinds;
 
 struct Two {
     pair: Pair,

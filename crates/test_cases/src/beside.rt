@@ -3,13 +3,13 @@
 use crate::compare;
 use crate::made;
 use crate::pair::Pair;
+use encoding::Encoded;
+use encoding::kinds;
 use runner::Runner;
 use test_samples::arguments;
 use test_samples::arguments::Arguments;
 use test_samples::arguments::first_inputs;
 use test_samples::files::byte;
-use encoding::Encoded;
-use encoding::kinds;
 
 // The chart as it was and as it is rewritten, and whether it is the same.
 struct Charts {

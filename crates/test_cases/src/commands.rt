@@ -2,6 +2,7 @@
 // what the last call is to tell or what the file is to hold. The file `stdin` has the list of them.
 use crate::pair;
 use crate::pair::Pair;
+use encoding::kinds;
 use test_samples::arguments::first_inputs;
 use test_samples::files;
 use test_samples::files::File;
@@ -12,7 +13,6 @@ use test_text::letters;
 use test_text::text::number;
 use test_text::text::part;
 use test_text::text::piece;
-use encoding::kinds;
 
 // First two letters, as in `letters`.
 const TAKE: u32 = 0x7461;

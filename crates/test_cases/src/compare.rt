@@ -1,9 +1,9 @@
 // What the two sides tell, compared, and the charts that they hold. The model says the numbers of
 // `encoding` by itself.
-use runner::Runner;
-use test_second::Model;
 use encoding::Encoded;
 use encoding::kinds;
+use runner::Runner;
+use test_second::Model;
 
 pub fn of_model(t: test_second::Told) -> Encoded {
     encoding::make(t.kind, t.first as u64, t.second)

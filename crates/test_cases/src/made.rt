@@ -1,7 +1,7 @@
 // One call to one runner: the runner after it, and what it told.
+use encoding::Encoded;
 use runner::Runner;
 use test_samples::arguments::Arguments;
-use encoding::Encoded;
 
 pub struct Made {
     pub runner: Runner,

@@ -4,6 +4,8 @@ use crate::compare;
 use crate::counts;
 use crate::made;
 use crate::report;
+use encoding::Encoded;
+use encoding::kinds;
 use runner::Runner;
 use test_samples::arguments;
 use test_samples::files;
@@ -12,8 +14,6 @@ use test_samples::files::byte;
 use test_second::Model;
 use test_second::Outcome;
 use test_text::text::part;
-use encoding::Encoded;
-use encoding::kinds;
 
 // `told` is what the last call told, and `whole` the answer of a copy of the model that was
 // advanced at once by the whole limit of the last run. `inputs` and `boxes` are those of the chart
@@ -162,7 +162,13 @@ impl Pair {
         let loaded = self.runner.load(file);
         let next = loaded.runner;
         let t = loaded.told;
-        self.turn(b"load", next, encoding::of_load(t), self.model.load(file), 0)
+        self.turn(
+                b"load",
+                next,
+                encoding::of_load(t),
+                self.model.load(file),
+                0,
+            )
             .hold(byte(file, 4))
     }
 

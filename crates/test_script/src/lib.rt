@@ -13,9 +13,9 @@
 //   7 convert        where the file starts, its length, how many bytes of the buffer are lent
 //   8 rewrite
 // A kind from 9 on is no call: it tells `NO_CALL`, and nothing is done.
-use runner::Runner;
 use encoding::Encoded;
 use encoding::kinds;
+use runner::Runner;
 
 // Told where a kind is that of no call. No reply has it: the kinds of `encoding` are below.
 const NO_CALL: u32 = 16;

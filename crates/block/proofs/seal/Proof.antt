@@ -1,7 +1,7 @@
 -- `seal` puts the two bytes of the check, which is below 65,536, one after the other.
 use native.Mathlib.Omega.{arith}
 use denote.Ref.{now}
-use Rattle.block.specs.Block.{sealed}
+use Rattle.block.specs.Block.{withSeal}
 use Rattle.block.proofs.Sums.{check-small}
 use borrow.Author.Needs.{needs}
 use Rattle.block.proofs.seal.Statement.{statement}
@@ -29,7 +29,7 @@ same-length : tie.Need-same-length
 same-length c = search needs
 
 returns : tie.Need-returns
-unfolding sealed
+unfolding withSeal
 returns c = cc
 
 pub seal-spec : {M : Type 1} → statement M

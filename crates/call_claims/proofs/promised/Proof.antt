@@ -1,5 +1,5 @@
 -- `promised` holds the claims of this crate: each by its theorem.
-use Rattle.call_claims.proofs.Demand3.{demand3}
+use Rattle.call_claims.proofs.Demand3.{demand3, halves-by-parameters}
 use Rattle.call_claims.proofs.OneFile.{one-file}
 use Rattle.call_claims.proofs.RunLaws.{refusal-changes-nothing, advances-join, counts-boxes, limit-ends, one-advance-ends, tells-whole-run, within-limit, cleared}
 use Rattle.call_claims.proofs.ChartLaws.{held-obeys, runs-in-range, ends-in-range, loaded-is-written, written-is-loaded}
@@ -13,6 +13,7 @@ use Rattle.call_claims.proofs.promised.Tie as tie
 returns : tie.Need-returns
 returns c = (
   demand3,
+  halves-by-parameters,
   one-file,
   refusal-changes-nothing,
   advances-join,
