@@ -308,19 +308,17 @@ impl Runner {
         if state < VALUE {
             return AnswerTold::Refused(refusal(24));
         }
-        if state == VALUE {
-            return AnswerTold::Value {
+        match state {
+            VALUE => AnswerTold::Value {
                 value: self.value,
                 steps,
-            };
-        }
-        if state == NOTICE {
-            return AnswerTold::Notice {
+            },
+            NOTICE => AnswerTold::Notice {
                 named: self.named,
                 steps,
-            };
+            },
+            _ => AnswerTold::Spent(steps),
         }
-        AnswerTold::Spent(steps)
     }
 
     // The file of the held chart at the front of a lent buffer. The runner that follows is the one
