@@ -11,7 +11,6 @@ ghost use Rattle.example_claims.specs.Witnesses.{ConversionIsMet, Rewrit
 // theorems could be deleted, and nothing would fail.
 pub fn promised()
     ensures { λ _. ⌜
-        BareIsNotSecret × AnotherModeIsTold × AnotherLimitIsTold × BareAnswersMore × SmallerLimitAnswersLess × AdvancesPartAtTheEnd × NoLoadDuringARun × AnotherLoadIsTold × HighWaterNamesNone × SurveillanceNamesSome × HighWaterAdvancesPart × HighWaterSumEndsNothing × HighWaterCountsNoBoxes × SurveillanceTellsCounts × WrittenBackIsTold × EditionsEndApart × RewritingIsTold × RewritingBetweenIsTold × GuardedMayLose × DrawnDoNotCount
-        × SecrecyIsMet × NoticeIsTold × SecondEditionIsMet × ChoiceIsMet × CountsAreHidden × AdvancesAreWhole × AnsweringIsMet × ConversionIsMet × RewritingIsMet × RewritingInOrder
+        BareIsNotSecret × AnotherModeIsTold × AnotherLimitIsTold × BareAnswersMore × SmallerLimitAnswersLess × AdvancesPartAtTheEnd × NoLoadDuringARun × AnotherLoadIsTold × HighWaterNamesNone × SurveillanceNamesSome × HighWaterAdvancesPart × HighWaterSumEndsNothing × HighWaterCountsNoBoxes × SurveillanceTellsCounts × WrittenBackIsTold × EditionsEndApart × RewritingIsTold × RewritingBetweenIsTold × GuardedMayLose × DrawnDoNotCount × SecrecyIsMet × NoticeIsTold × SecondEditionIsMet × ChoiceIsMet × CountsAreHidden × AdvancesAreWhole × AnsweringIsMet × ConversionIsMet × RewritingIsMet × RewritingInOrder
         ⌝ }
 {}
