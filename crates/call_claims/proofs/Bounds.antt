@@ -2,7 +2,7 @@
 -- under way (`begun-runs`), what a limit means is not 0 (`effective-positive`), a number in range
 -- is not the first one out of it (`header-bounds`, `box-bounds`), and laws of lists and of truth
 -- values. Assumes nothing.
-use Prim.Native.Nat.{ℕ, _+_, _-_, _^_}
+use Prim.Native.Nat.{ℕ, _+_, _-_}
 use mathlib.Core.Path.{_≡_, ap, sym, _∙_}
 use mathlib.Core.List.{List, [], _∷_, _++_, append-nil}
 use mathlib.Core.Bool.{true≢false}

@@ -2,10 +2,9 @@
 -- sets that notices name (02, a).
 use Prim.Native.Nat.{ℕ}
 use mathlib.Core.Path.{_≡_}
-use mathlib.Core.List.{List}
 use mathlib.Core.Bool.{true}
 use Rattle.marks.specs.Marks.{marked}
-use Rattle.machine.specs.Run.{Ending, notice, namedIn}
+use Rattle.machine.specs.Run.{notice, namedIn}
 use Rattle.run_claims.specs.Sets.{AllSets, WithheldOnly}
 use Rattle.runner.specs.State.{runIn}
 use Rattle.runner.specs.Outcomes.{Reply, done, chart, running, ended, ending, wrote, refused}

@@ -8,7 +8,6 @@ use lib.ListN.{length}
 use Rattle.block.specs.Refusing.{refusal, refuseInto}
 use Rattle.block.specs.declared.Refusal.{Refusal}
 use Rattle.format.specs.File.{inRange, checkFile}
-use Rattle.format.specs.declared.Header.{Header}
 use Rattle.format.specs.declared.Checked.{Checked}
 use Rattle.format.specs.declared.Checked.the-variants as checked
 use Rattle.chart.specs.WriteBack.{hasRoom}

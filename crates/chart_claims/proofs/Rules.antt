@@ -17,7 +17,7 @@ use Rattle.format.specs.File.{blocksFor, placeStart, placeOf, boxRule, placeRul
 use Rattle.format.specs.declared.Header.{Header}
 use Rattle.format.specs.declared.Checked.the-variants as checked
 use Rattle.boxes.proofs.Bools.{and-left, and-right, or-cases, Every, every}
-use Rattle.format.proofs.Passes.{Passes, passes}
+use Rattle.format.proofs.Passes.{passes}
 use Rattle.chart.specs.Chart.{joined, boxBlocks, boxesOf, tableOf}
 use Rattle.chart_claims.specs.Claims.{ObeysRules, ShowsTheBox, BoxInRange, assignment, decision, halt, choice, StaysInRange}
 use Rattle.chart.proofs.Lists.{length-part, part-part, part-zeros}

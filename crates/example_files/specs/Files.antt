@@ -3,7 +3,7 @@
 use Prim.Native.Nat.{ℕ}
 use mathlib.Core.List.{List, [], _∷_, _++_}
 use lib.ListN.{take, replicate, set}
-use Rattle.example_charts.specs.Charts.{block, front, assign, halt, halts, chartA, chartB, chartC, chartD, headE, boxesE, chartE, withHead}
+use Rattle.example_charts.specs.Charts.{block, front, assign, halt, halts, chartA, chartB, chartC, chartD, headE, chartE, withHead}
 use Rattle.example_charts.specs.Cases.{Case, answers, accepted, refused, Table}
 
 -- Chart E with other boxes.

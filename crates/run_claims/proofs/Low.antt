@@ -15,7 +15,7 @@ use Rattle.decode.specs.Decode.{Box, assigns, decides, halts}
 use Rattle.marks.specs.Marks.{Mode, surveillance, highWater, marked, union, byMode, targetMark, haltNotice, namedBy, hides}
 use Rattle.marks.proofs.MarkLaws.{or-none, union-none, marked-none}
 use Rattle.machine.specs.Act.{entry, entries, actBy, act}
-use Rattle.machine.specs.Run.{Run, Progress, going, over, goesOn, settle, step, onward, run}
+use Rattle.machine.specs.Run.{Run, Progress, going, goesOn, settle, step, onward, run}
 use Rattle.machine.specs.declared.Act.the-variants.{Go, Value, Notice}
 use Rattle.machine.proofs.Runs.{lift}
 use Rattle.begin.specs.Begin.{firstVars, firstMarks}

@@ -12,7 +12,7 @@ use Rattle.decode.specs.Decode.{Box, assigns, decides, halts}
 use Rattle.marks.specs.Marks.{Mode, surveillance, highWater, marked, union}
 use Rattle.marks.proofs.MarkLaws.{or-none, or-zeros, union-none, marked-none, none-marked}
 use Rattle.machine.specs.Act.{entry, entries, actBy, act}
-use Rattle.machine.specs.Run.{Run, Ending, valued, Progress, going, over, moved, goesOn, settle, step, onward, run}
+use Rattle.machine.specs.Run.{Run, valued, Progress, going, over, moved, goesOn, settle, step, onward, run}
 use Rattle.machine.specs.declared.Act.the-variants.{Go, Value, Notice}
 use Rattle.machine.proofs.Runs.{lift}
 use Rattle.begin.specs.Begin.{firstMarks}

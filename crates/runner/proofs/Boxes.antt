@@ -1,7 +1,7 @@
 -- The loop of advance: what the box at hand does, by the act that the code computed of it, how the
 -- run ends or goes on after it, and what advance leaves and tells where the loop is left. Assumes
 -- nothing.
-use Prim.Native.Nat.{ℕ, zero, suc, _+_, _-_, _*_, _%_, _^_, _<_, _≤_}
+use Prim.Native.Nat.{ℕ, zero, suc, _+_, _-_, _*_, _%_, _^_, _<_}
 use mathlib.Core.Path.{_≡_, refl, ap, sym, _∙_, subst}
 use mathlib.Core.Logic.{_⊎_, inr, ⊎-elim}
 use mathlib.Core.List.{List, [], _∷_, map}

@@ -6,7 +6,7 @@ use mathlib.Core.Path.{_≡_, refl, ap, sym, _∙_}
 use mathlib.Core.Bool.{Bool, true, false, cond, true≢false}
 use native.Mathlib.Omega.{arith}
 use Rattle.marks.specs.Marks.{Mode, hides}
-use Rattle.machine.specs.Run.{Ending, valued, notice, spent, Progress, going, over}
+use Rattle.machine.specs.Run.{valued, notice, spent, Progress, going, over}
 use Rattle.runs.specs.Whole.{disclosed, Finish, finish}
 
 pub disclosed-by : (Good : Progress → Type 0) (m : Mode) (p : Progress) → Good p → (hides m ≡ true → Good (over (notice 0) 0)) → Good (disclosed m p)
