@@ -1,4 +1,6 @@
 // The rules of a box, ten bytes, in a chart of an edition, of k inputs and n boxes.
+#![tactic(auto)]
+
 ghost use Rattle.std.specs.Prelude.{◌≡◌, length};
 ghost use Rattle.boxes.specs.Bytes.{all_zero};
 ghost use Rattle.boxes.specs.Box.{readable, reads_right, has_kind, operand_rule, assignment_rule, decision_rule, halt_rule, choice_rule, well_formed};

@@ -54,6 +54,6 @@ is_line line = leb (length line) 255 && leb 3 (length (parts line)) && leb (leng
 unfoldable pub numbers_of : List ℕ → Numbers
 numbers_of ns = record { numbers = ns ++ replicate (19 - length ns) 0; count = length ns }
 
--- A line's numbers, and none where it is ill_formed.
+-- A line's numbers, and none where it is ill-formed.
 unfoldable pub parse : List ℕ → Numbers
 parse line = numbers_of (cond (is_line line) (map number_of (parts line)) [])

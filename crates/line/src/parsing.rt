@@ -2,7 +2,7 @@
 ghost use Rattle.std.specs.Prelude.{◌≡◌, [], cond, not, ◌&&◌, ◌+◌, ◌*◌, ◌-◌, ◌≤◌, eqb, leb};
 ghost use Rattle.line.specs.Parsing.{is_digit, numbers_of, parse};
 
-// The numbers of a line, then zeros; none where the line is ill_formed.
+// The numbers of a line, then zeros; none where the line is ill-formed.
 #[derive(Drop)]
 pub struct Numbers {
     pub numbers: [u32; 19],

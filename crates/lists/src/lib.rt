@@ -1,1 +1,3 @@
+#![tactic(auto)]
+
 // Laws of lists that several crates cite, in proofs/; there is no code.

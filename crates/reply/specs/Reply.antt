@@ -51,7 +51,7 @@ run_out r = (call (advance 65535) r).next
 unfoldable pub answered : Outcome → List ℕ
 answered o = cond (is_accepted o.told.reply) (reply_text (call answer (run_out o.next)).told.reply) (reply_text o.told.reply)
 
--- The text of a line. "11: the run program's line is ill_formed. Detail: line number from 1." A
+-- The text of a line. "11: the run program's line is ill-formed. Detail: line number from 1." A
 -- line that is not has three numbers or more.
 unfoldable pub respond : Runner → (number : ℕ) → (line : List ℕ) → List ℕ
 respond r number line = cond (eqb (parse line).count 0) (refused_text 11 number) (answered (call (begin_of (parse line)) r))

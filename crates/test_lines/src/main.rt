@@ -1,4 +1,4 @@
-// The run program on lines of every kind: ill_formed, refused, longer than a read, and a last one
+// The run program on lines of every kind: ill-formed, refused, longer than a read, and a last one
 // without its newline.
 fn main() {
     serve::run();

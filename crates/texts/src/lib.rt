@@ -94,7 +94,7 @@ pub fn print_spent(steps: u32, out: &mut [u8]) -> usize
     print_sentence(b"spent steps ", steps as u64, out)
 }
 
-// A refusal; the detail of a line that is ill_formed is its number, which may pass 32 bits.
+// A refusal; the detail of a line that is ill-formed is its number, which may pass 32 bits.
 pub fn print_refused(number: u32, detail: u64, out: &mut [u8]) -> usize
     ensures value { result ≡ printed_length (refused_text number detail) (length out.old) }
     ensures out_after { out.new ≡ printed (refused_text number detail) out.old }

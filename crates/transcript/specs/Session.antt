@@ -54,7 +54,7 @@ pub data Turn : Type 0 where
   read : State → Turn
   stop : Turn
 
--- What is kept of a line that has not ended: "at most 255 bytes" makes a line of 256 ill_formed
+-- What is kept of a line that has not ended: "at most 255 bytes" makes a line of 256 ill-formed
 -- whatever follows.
 abbrev pub clipped : List ℕ → List ℕ
 clipped bytes = take 256 bytes

@@ -1,5 +1,7 @@
 // A byte as a wider number, and the lesser of two. The contract of a cast tells the caller the
 // byte's range, which a cast in place would leave to be shown there.
+#![tactic(auto)]
+
 ghost use Rattle.std.specs.Prelude.{◌≡◌, ◌<◌, min};
 
 pub fn to_u32(b: u8) -> u32
