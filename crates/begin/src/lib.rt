@@ -1,4 +1,6 @@
 // What a run begins with: the limit, the variables and their marks.
+#![tactic(auto)]
+
 ghost use Rattle.std.specs.Prelude.{◌≡◌, ◌<◌};
 ghost use Rattle.begin.specs.Begin.{effective, withheld_mark, first_vars, first_marks};
 
