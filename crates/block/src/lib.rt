@@ -1,5 +1,7 @@
 // A block of 512 bytes: its check, the seal that puts the check into it, and the test of a seal.
 // And a refusal, which every list of checks above answers by.
+#![tactic(auto)]
+
 ghost use Rattle.std.specs.Prelude.{◌≡◌, slice_set};
 ghost use Rattle.boxes.specs.Bytes.{at};
 ghost use Rattle.block.specs.Block.{checksum, is_sealed, with_seal};

@@ -1,5 +1,7 @@
 // A chart out of its file and back: the box table of a file, the file of a chart, and one box of a
 // file.
+#![tactic(auto)]
+
 ghost use Rattle.std.specs.Prelude.{◌≡◌, ◌++◌, ◌≤◌, length, drop};
 ghost use Rattle.block.specs.Block.{seal};
 ghost use Rattle.chart.specs.Chart.{box_blocks, table_of, header_body, sealed_block};

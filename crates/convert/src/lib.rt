@@ -1,4 +1,6 @@
 // The converter between the editions: a chart's file into its file of the other edition.
+#![tactic(auto)]
+
 ghost use Rattle.std.specs.Prelude.{◌≡◌, ◌≤◌, length};
 ghost use Rattle.format.specs.Search.{first_failing};
 ghost use Rattle.format.specs.File.{check_file};

@@ -1,4 +1,6 @@
 // The chart file's rules: what load's input checks 1 to 6 answer of any bytes.
+#![tactic(auto)]
+
 ghost use Rattle.std.specs.Prelude.{◌≡◌, ℕ, ◌+◌, ◌*◌, ◌<◌, ◌≤◌, length};
 ghost use Rattle.block.specs.Refusing.{refusal};
 ghost use Rattle.format.specs.Search.{first_failing};
