@@ -1,10 +1,13 @@
 // Operations 2 to 8, and the three comparisons. `machine::operate` has the others, over the kit's
 // one bits, leading and trailing zeros.
+#![tactic(auto)]
+
 ghost use Rattle.std.specs.Prelude.{◌≡◌, ◌*◌, ◌%◌, ◌^◌, min, max, [], ◌∷◌};
 ghost use Rattle.operations.specs.Operation.{sum, difference, quotient, remainder, compares};
 
 // The sum modulo 4,294,967,296; in edition 2 the greatest number where the true sum is larger,
 // which is where it has wrapped below an operand.
+#[tactic(auto, unfolding(crate::specs::Operation::sum))]
 pub fn sum(edition: u8, a: u32, b: u32) -> u32
     ensures { result ≡ sum edition a b }
 {
@@ -19,6 +22,7 @@ pub fn sum(edition: u8, a: u32, b: u32) -> u32
 }
 
 // The difference modulo 4,294,967,296; in edition 2 0 where right exceeds left.
+#[tactic(auto, unfolding(crate::specs::Operation::difference))]
 pub fn difference(edition: u8, a: u32, b: u32) -> u32
     ensures { result ≡ difference edition a b }
 {
@@ -41,6 +45,7 @@ pub fn product(a: u32, b: u32) -> u32
 }
 
 // The quotient, 0 when right is 0.
+#[tactic(auto, unfolding(crate::specs::Operation::quotient))]
 pub fn quotient(a: u32, b: u32) -> u32
     ensures { result ≡ quotient a b }
 {
@@ -48,6 +53,7 @@ pub fn quotient(a: u32, b: u32) -> u32
 }
 
 // The remainder, left when right is 0.
+#[tactic(auto, unfolding(crate::specs::Operation::remainder))]
 pub fn remainder(a: u32, b: u32) -> u32
     ensures { result ≡ remainder a b }
 {
@@ -67,6 +73,7 @@ pub fn greater(a: u32, b: u32) -> u32
 }
 
 // Whether a comparison holds of two values.
+#[tactic(auto, unfolding(crate::specs::Operation::compares))]
 pub fn compare(comparison: u8, a: u32, b: u32) -> bool
     ensures { result ≡ compares comparison (a ∷ b ∷ []) }
 {
