@@ -1,10 +1,12 @@
 // The modes: what an assignment leaves on its target, what a decision and a halt do, and whether
 // counts are hidden. A mark is a set of withheld inputs, a number whose bit j is input j; 0 is no
 // mark.
+#![tactic(auto)]
+
 ghost use Rattle.std.specs.Prelude.{◌≡◌};
 ghost use Rattle.marks.specs.Marks.{mode_of, mode_in, by_mode, masks_of, set_by, decision_notice, counter_mark, halt_notice, named_by, hides};
 
-#[derive(Drop)]
+#[derive(Clone, Copy)]
 pub enum Mode {
     Bare,
     Surveillance,
@@ -12,6 +14,7 @@ pub enum Mode {
 }
 
 // The mode of a number.
+#[tactic(auto, unfolding(crate::specs::Marks::mode_of))]
 pub fn mode_of(number: u8) -> Mode
     ensures { mode_in result ≡ mode_of number }
 {
@@ -35,7 +38,7 @@ fn by_mode(mode: Mode, bare: u16, surveillance: u16, high: u16) -> u16
 
 // The masks by which an assignment in a mode sets its target's mark: which inputs it keeps of the
 // old set, and which it takes of the sets read.
-#[derive(Drop)]
+#[derive(Clone, Copy)]
 pub struct Masks {
     keep: u16,
     take: u16,
