@@ -1,4 +1,6 @@
 // The box at a place of the table, ten bytes.
+#![tactic(auto)]
+
 ghost use Rattle.std.specs.Prelude.{◌*◌, min, ◌≡◌};
 ghost use Rattle.decode.specs.Decode.{little_endian, box_from};
 
