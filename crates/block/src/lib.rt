@@ -8,7 +8,7 @@ ghost use Rattle.block.specs.Block.{checksum, is_sealed, with_seal};
 ghost use Rattle.block.specs.Refusing.{refusal};
 
 // A refusal, by document 01's number and detail.
-#[derive(Drop)]
+#[derive(Clone, Copy)]
 pub struct Refusal {
     pub number: u32,
     pub detail: u32,

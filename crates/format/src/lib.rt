@@ -9,7 +9,7 @@ ghost use Rattle.format.specs.File.{addend, place_start, blocks_for, length_rule
 use block::Refusal;
 
 // Block 0's numbers of a chart: the edition, the number of inputs, of boxes, and the first box run.
-#[derive(Drop)]
+#[derive(Clone, Copy)]
 pub struct Header {
     pub edition: u8,
     pub inputs: u8,
@@ -18,7 +18,7 @@ pub struct Header {
 }
 
 // What load's input checks answer.
-#[derive(Drop)]
+#[derive(Clone, Copy)]
 pub enum Checked {
     Accepted(Header),
     Refused(Refusal),
