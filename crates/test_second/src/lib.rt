@@ -3,7 +3,9 @@
 // reads each box out of them.
 // Every call is total: no argument and no model is excluded. None has an equation: what they answer
 // is compared with the runner's answers.
-ghost use Rattle.std.specs.Prelude.{◌≤◌};
+#![tactic(auto)]
+
+ghost use Rattle.std.specs.Prelude.{◌≤◌, length};
 
 mod blocks;
 mod choices;
@@ -22,7 +24,7 @@ use rules::{judged, size_of};
 // (value, steps); 5 notice (steps, set), the set of the inputs named, bit j for input j; 7 refused
 // (number, detail); 8 written (length). An unused field is 0. They are said here again because this
 // crate was written apart from `encoding`, and is compared with it.
-#[derive(Drop)]
+#[derive(Clone, Copy)]
 pub struct Told {
     pub kind: u32,
     pub first: u32,
@@ -30,7 +32,7 @@ pub struct Told {
 }
 
 // The file's bytes and its length, 0 where no chart is held; then the fields of a run.
-#[derive(Drop)]
+#[derive(Clone, Copy)]
 pub struct Model {
     file: [u8; 2560],
     length: u32,
@@ -46,7 +48,7 @@ pub struct Model {
 }
 
 // The model that follows a call, and what the call tells.
-#[derive(Drop)]
+#[derive(Clone, Copy)]
 pub struct Outcome {
     pub model: Model,
     pub told: Told,
@@ -92,7 +94,8 @@ fn filled(inputs: &[u32]) -> [u32; 32] {
 
 // The first `count` of a file's bytes are put at the front of `out`.
 fn copied(bytes: &[u8; 2560], out: &mut [u8], count: usize)
-    requires* { do ⌜ (count ≤ 2560) × (count ≤ (← ⟦out.len()⟧)) ⌝ }
+    requires held { count ≤ 2560 }
+    requires room { count ≤ length out.old }
 {
     for i in 0..count {
         out[i] = bytes[i];

@@ -10,7 +10,7 @@ use crate::rules::{reads_left, reads_right};
 // the
 // value of 4, the set that 5 names, else 0. `steps` is the count of the boxes run, and 0 after a
 // high-water notice.
-#[derive(Drop)]
+#[derive(Clone, Copy)]
 pub struct Run {
     pub vars: [u32; 32],
     pub marks: [u32; 16],

@@ -5,7 +5,7 @@ use crate::blocks::{all_zero, byte, constant, differing, field, start};
 use crate::numbers::meaning_of;
 
 // The refusal of a file and its detail; `number` is 0 where the file is accepted.
-#[derive(Drop)]
+#[derive(Clone, Copy)]
 pub struct Verdict {
     pub number: u32,
     pub detail: u32,
