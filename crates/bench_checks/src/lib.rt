@@ -5,8 +5,7 @@ use bench_rounds::{fold_told, holding};
 
 // Health checks: begin, advance to the end, answer. Input 0 is one more each round. Of more than 32
 // inputs, which no chart has, there are no rounds.
-#[unsafe(no_mangle)]
-pub extern "C" fn flow_checks(
+pub fn flow_checks(
     file: &[u8],
     mode: u32,
     inputs: &[u32],

@@ -43,8 +43,7 @@ fn side(first: bool, half: usize) -> usize
 }
 
 // Loads of two files in turn, each of which is a half of the lent bytes.
-#[unsafe(no_mangle)]
-pub extern "C" fn flow_loads(files: &[u8], rounds: u32) -> u64 {
+pub fn flow_loads(files: &[u8], rounds: u32) -> u64 {
     let half = files.len() / 2;
     let mut runner = Runner::new();
     let mut sum: u64 = 0;
@@ -62,8 +61,7 @@ pub extern "C" fn flow_loads(files: &[u8], rounds: u32) -> u64 {
 }
 
 // Write backs of one chart; of each, one byte of the buffer is folded and changed.
-#[unsafe(no_mangle)]
-pub extern "C" fn flow_writes(file: &[u8], buf: &mut [u8], rounds: u32) -> u64 {
+pub fn flow_writes(file: &[u8], buf: &mut [u8], rounds: u32) -> u64 {
     let runner = holding(file);
     let mut sum: u64 = 0;
     let mut i: u32 = 0;
@@ -76,8 +74,7 @@ pub extern "C" fn flow_writes(file: &[u8], buf: &mut [u8], rounds: u32) -> u64 {
 }
 
 // Conversions of one file; of each, one byte of the buffer is folded and changed.
-#[unsafe(no_mangle)]
-pub extern "C" fn flow_converts(file: &[u8], buf: &mut [u8], rounds: u32) -> u64 {
+pub fn flow_converts(file: &[u8], buf: &mut [u8], rounds: u32) -> u64 {
     let mut sum: u64 = 0;
     let mut i: u32 = 0;
     while i < rounds {
@@ -95,8 +92,7 @@ fn either(first: bool, one: Runner, other: Runner) -> Runner {
 
 // Rewritings of two charts in turn, whose files are each a half of the lent bytes. The last chart
 // rewritten is written back, and the first byte of the check of its first boxes is folded too.
-#[unsafe(no_mangle)]
-pub extern "C" fn flow_rewrites(files: &[u8], buf: &mut [u8], rounds: u32) -> u64 {
+pub fn flow_rewrites(files: &[u8], buf: &mut [u8], rounds: u32) -> u64 {
     let half = files.len() / 2;
     let end = half + half;
     let one = holding(&files[..half]);
@@ -118,8 +114,7 @@ pub extern "C" fn flow_rewrites(files: &[u8], buf: &mut [u8], rounds: u32) -> u6
 }
 
 // Boxes shown, by numbers below 256; of each, the length and the byte at 5 are folded.
-#[unsafe(no_mangle)]
-pub extern "C" fn flow_shows(file: &[u8], rounds: u32) -> u64 {
+pub fn flow_shows(file: &[u8], rounds: u32) -> u64 {
     let mut sum: u64 = 0;
     let mut i: u32 = 0;
     while i < rounds {

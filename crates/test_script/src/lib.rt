@@ -163,8 +163,7 @@ fn put(told: &mut [u32], i: usize, made: Encoded, sum: u32) {
 // Makes the calls of a list, on a new runner, and answers how many there are. Each tells four
 // numbers: the three of `encoding`, and the sum; calls past the room for them are made as well.
 // Numbers that are too few for one more call are not read.
-#[unsafe(no_mangle)]
-pub extern "C" fn flow_script(
+pub fn flow_script(
     files: &[u8],
     words: &[u32],
     told: &mut [u32],
