@@ -2,12 +2,12 @@
 -- long sentence. Assumes nothing.
 use Prim.Native.Nat.{ℕ, ◌+◌, ◌-◌, ◌≤◌, ◌<◌}
 use mathlib.Core.Path.{◌≡◌, refl, ap, sym, ◌∙◌}
-use mathlib.Core.List.{List, [], ◌∷◌, ◌++◌}
+use mathlib.Core.List.{List, [], ◌∷◌, ◌++◌, append_assoc}
 use mathlib.Core.Bool.{Bool, true, false, cond}
 use native.Mathlib.Omega.{arith}
 use lib.Dec.{ltb}
 use lib.ListN.{length, take, drop, set, length-append}
-use lib.Seq.{take-append_seam}
+use lib.Seq.{take-append_seam, drop-append_seam, drop-drop}
 use borrow.Author.Tests.{lt-ltb, le-ltb}
 use borrow.Rule.Slice.PartMut.{put_mid}
 use Rattle.io.specs.Counts.{IsPrefixLen}
@@ -36,17 +36,26 @@ module _ (text out : List ℕ) where
         ap length (sym (take-append_seam text (drop (length text) out))),
       )
 
--- A clause: the word, then the digits in the rest.
-pub clause_front : (w ds out one part : List ℕ) (n a k count : ℕ) → ds ≡ decimal n → one ≡ front w out → a ≡ length w
-    → k ≡ length one - a → part ≡ front ds (take k (drop a one))
-    → count ≡ length ds → count ≤ 20 → (a + count ≡ length (clause w n)) × ((a + count ≤ length w + 20) × (put_mid a k one part ≡ front (clause w n) out))
+-- A part that was lent after p came back with s in it.
+put_part : (p s out : List ℕ) (k : ℕ) → k ≡ length s → put_mid (length p) k (front p out) s ≡ front (p ++ s) out
+put_part p s out k h =
+    let rest : List ℕ = drop (length p) out in
+    let longer : length p + k ≡ length (p ++ s) = omega (arith, length-append p s) in
+    rw (take-append_seam p rest, drop-append_seam p rest)
+    (ap (λ (t : List ℕ). p ++ (s ++ t)) (drop-drop k (length p) out ∙ ap (λ (n : ℕ). drop n out) longer)
+    ∙ sym (append_assoc p s (drop (length (p ++ s)) out)))
+
+-- A clause: the word, then the digits in the part after it.
+pub clause_front : (w ds out part : List ℕ) (n k count : ℕ) → ds ≡ decimal n → part ≡ ds
+    → k ≡ count → count ≡ length ds → count ≤ 20
+    → (length w + count ≡ length (clause w n)) × ((length w + count ≤ length w + 20) × (put_mid (length w) k (front w out) part ≡ front (clause w n) out))
 unfolding clause
-clause_front w ds out one part n a k count d e h q r m l =
+clause_front w ds out part n k count d r h m l =
     let same : w ++ ds ≡ w ++ decimal n = ap (λ (x : List ℕ). w ++ x) d in (
       omega (arith, ap length same, length-append w ds),
       (
         omega arith,
-        then_front w ds out one part a k e h q r ∙ ap (λ (x : List ℕ). front x out) same,
+        ap (put_mid (length w) k (front w out)) r ∙ put_part w ds out k (h ∙ m) ∙ ap (λ (x : List ℕ). front x out) same,
       ),
     )
 

@@ -1,5 +1,7 @@
 // The texts that the run program prints, each at the front of a lent buffer; each answers how many
 // bytes it put there.
+#![tactic(auto)]
+
 ghost use Rattle.std.specs.Prelude.{◌≡◌, ◌++◌, ◌+◌, ◌≤◌, length, drop};
 ghost use Rattle.texts.specs.Printing.{clause, sentence, long_sentence, chart_text, value_text, notice_text, spent_text, refused_text, printed, printed_length};
 
@@ -12,9 +14,11 @@ fn put_clause(word: &[u8], n: u64, out: &mut [u8]) -> usize
 {
     let mut digits = [0u8; 20];
     let count = io::decimal(n, &mut digits);
-    let at = bytes::copy(word, out);
-    bytes::copy(&digits[..count], &mut out[at..]);
-    at + count
+    let at = word.len();
+    let end = at + count;
+    out[..at].copy_from_slice(word);
+    out[at..end].copy_from_slice(&digits[..count]);
+    end
 }
 
 // A clause, then the newline.
