@@ -1,5 +1,7 @@
 // What one box of a chart does, by the edition of the chart, the mode and its masks, the
 // variables, their marks and the counter mark.
+#![tactic(auto)]
+
 ghost use Rattle.std.specs.Prelude.{◌≡◌, [], ◌∷◌};
 ghost use Rattle.operations.specs.Operation.{read_by, value_of, chosen};
 ghost use Rattle.decode.specs.Decode.{meaning};
