@@ -1,75 +1,91 @@
 // The run program's calls of the system: chart.bin is read, then standard input, as the turns of
 // `transcript` want it, and what they want is written. Standard error is told what standard output
 // cannot say.
+#![tactic(auto)]
+
 ghost use Rattle.std.specs.Prelude.{◌≡◌, ◌≤◌, length};
 ghost use Rattle.io.specs.Counts.{IsPrefixLen};
 ghost use Rattle.transcript.specs.Transcript.{read_of_file};
 
-use libc::{STDERR_FILENO, STDIN_FILENO, STDOUT_FILENO};
 use runner::Runner;
+use std::env::FillError;
+use std::io::{Error, Input, Read};
+use std::rt::{Env, Files};
 use transcript::{Session, Wanted};
+
+// Writes a line to standard error: what failed, a colon and the system's word for it.
+fn fail(rt: &impl Eprint, what: &str, error: Error) {
+    let _ = eprintln!(rt; "{what}: {error}");
+}
 
 // Reads chart.bin to the front of a buffer, and answers how many bytes: none where it cannot be
 // read. There is no equation, since no contract can say what the file holds.
-pub fn read_chart(buf: &mut [u8; 2561]) -> usize
+pub fn read_chart(rt: &(impl Files + Eprint), buf: &mut [u8; 2561]) -> usize
     ensures { IsPrefixLen result buf.new }
 {
-    let fd = os::open_read(b"chart.bin");
-    if fd < 0 {
-        os::fail(b"chart.bin");
-        return 0;
+    match std::fs::open(rt, "chart.bin") {
+        Ok(mut file) => read_file(rt, &mut file, buf),
+        Err(error) => {
+            fail(rt, "chart.bin", error);
+            0
+        }
     }
-    let length = read_file(fd, buf);
-    libc::close(fd);
-    length
 }
 
 // Reads until a buffer is full or the file ends; a read that fails counts as no bytes. The buffer
 // has as many bytes as are read of a chart file at most.
-fn read_file(fd: i32, buf: &mut [u8]) -> usize
+fn read_file(rt: &impl Eprint, file: &mut impl Read, buf: &mut [u8]) -> usize
     requires { length buf.old ≡ read_of_file }
     ensures { IsPrefixLen result buf.new }
 {
     let mut length: usize = 0;
     while length < buf.len() {
-        let got = libc::read(fd, &mut buf[length..]);
-        if got < 0 {
-            os::fail(b"chart.bin");
-            return 0;
+        match file.read(&mut buf[length..]) {
+            Ok(more) => {
+                if more == 0 {
+                    break;
+                }
+                length += more;
+            }
+            Err(error) => {
+                fail(rt, "chart.bin", error);
+                return 0;
+            }
         }
-        let more = io::count(got, &buf[length..]);
-        if more == 0 {
-            break;
-        }
-        length += more;
     }
     length
 }
 
 // Writes a text, and answers whether that was done.
-fn write(text: &[u8]) -> bool {
-    if io::write_all(STDOUT_FILENO, text) {
-        return true;
+fn write(rt: &(impl Print + Eprint), text: &[u8]) -> bool {
+    match rt.write_all(text) {
+        Ok(()) => true,
+        Err(error) => {
+            fail(rt, "standard output", error);
+            false
+        }
     }
-    os::fail(b"standard output");
-    false
 }
 
 // Reads behind the bytes at hand.
-fn read(session: Session, buffer: &mut [u8]) -> Session
+fn read(rt: &impl Eprint, input: &mut impl Read, session: Session, buffer: &mut [u8]) -> Session
     requires { session.end ≤ length buffer.old }
 {
     let end = session.end;
-    let got = libc::read(STDIN_FILENO, &mut buffer[end..]);
-    if got < 0 {
-        os::fail(b"standard input");
-    }
+    let got = match input.read(&mut buffer[end..]) {
+        Ok(count) => count as isize,
+        Err(error) => {
+            fail(rt, "standard input", error);
+            -1
+        }
+    };
     transcript::received(session, got, buffer)
 }
 
 // Does what each turn wants, until one wants to stop or a write fails. An ending loop counts its
 // turns, from a number that no run uses up.
-fn serve(runner: Runner, buffer: &mut [u8], out: &mut [u8]) {
+fn serve(rt: &(impl Input + Print + Eprint), runner: Runner, buffer: &mut [u8], out: &mut [u8]) {
+    let mut input = rt.reader();
     let mut session = Session {
         count: 0,
         at: 0,
@@ -85,12 +101,12 @@ fn serve(runner: Runner, buffer: &mut [u8], out: &mut [u8]) {
         session = turned.session;
         match wanted {
             Wanted::Write => {
-                if !write(&out[..length]) {
+                if !write(rt, &out[..length]) {
                     return;
                 }
             }
             Wanted::Read => {
-                session = read(session, buffer);
+                session = read(rt, &mut input, session, buffer);
             }
             Wanted::Stop => {
                 return;
@@ -99,25 +115,27 @@ fn serve(runner: Runner, buffer: &mut [u8], out: &mut [u8]) {
     }
 }
 
-pub fn run() {
-    if 1 < os::arg_count() {
-        io::write_all(
-            STDERR_FILENO,
-            b"flowrun: words after the command are not taken\n",
-        );
+// Whether the command has words after it.
+fn has_words(rt: &impl Env) -> bool {
+    !matches!(rt.arg(1, &mut [0u8; 1]), Err(FillError::NotPresent))
+}
+
+pub fn run(rt: &(impl Env + Files + Input + Print + Eprint)) {
+    if has_words(rt) {
+        let _ = eprintln!(rt; "flowrun: words after the command are not taken");
     }
     let mut file = [0u8; 2561];
-    let length = read_chart(&mut file);
+    let length = read_chart(rt, &mut file);
     let mut texts = io::large_buffer();
     let out: &mut [u8] = &mut texts;
     let opened = reply::load_chart(Runner::new(), &file[..length], out);
     let runner = opened.runner;
     let size = opened.length;
-    if !write(&out[..size]) {
+    if !write(rt, &out[..size]) {
         return;
     }
     if opened.loaded {
         let mut input = io::large_buffer();
-        serve(runner, &mut input, out);
+        serve(rt, runner, &mut input, out);
     }
 }

@@ -1,5 +1,7 @@
 // The run program on lines of every kind: ill-formed, refused, longer than a read, and a last one
 // without its newline.
-fn main() {
-    serve::run();
+#![tactic(auto)]
+
+fn main(rt: HostRuntime) {
+    serve::run(&rt);
 }

@@ -1,4 +1,6 @@
 // The run program without its chart file.
-fn main() {
-    serve::run();
+#![tactic(auto)]
+
+fn main(rt: HostRuntime) {
+    serve::run(&rt);
 }

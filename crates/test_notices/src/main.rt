@@ -1,5 +1,7 @@
 // The run program on chart D, whose notice names its input under surveillance and none with the
 // high-water mark.
-fn main() {
-    serve::run();
+#![tactic(auto)]
+
+fn main(rt: HostRuntime) {
+    serve::run(&rt);
 }
