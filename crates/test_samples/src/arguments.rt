@@ -3,7 +3,7 @@ use crate::random::{below, one_in};
 use crate::{files, random};
 
 // The arguments of a begin but its inputs, of which there are `count`.
-#[derive(Drop)]
+#[derive(Clone, Copy)]
 pub struct Arguments {
     pub mode: u32,
     pub count: usize,

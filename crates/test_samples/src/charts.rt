@@ -10,7 +10,7 @@ use crate::{files, random};
 
 // A chart's numbers of inputs and of boxes, its edition, and a number below which its boxes are
 // alike in both editions.
-#[derive(Drop)]
+#[derive(Clone, Copy)]
 pub struct Shape {
     pub inputs: u32,
     pub boxes: u32,

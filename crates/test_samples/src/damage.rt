@@ -145,7 +145,7 @@ fn exchange_blocks(state: &mut u64, file: &mut File, shape: Shape) -> bool {
 
 // A file that was drawn: its length, and whether it is a chart's with two box blocks exchanged and
 // nothing else changed.
-#[derive(Drop)]
+#[derive(Clone, Copy)]
 pub struct Drawn {
     pub length: usize,
     pub exchanged: bool,
