@@ -1,1 +1,2 @@
 // Whole runs on any flowchart, in specs/ and proofs/; there is no code.
+#![tactic(auto)]
