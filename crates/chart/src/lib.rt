@@ -12,7 +12,7 @@ use block::Refusal;
 use format::{Checked, Header};
 
 // What is told where a chart's file is to be written: its length, or a refusal.
-#[derive(Drop)]
+#[derive(Clone, Copy)]
 pub enum Written {
     Length(usize),
     Refused(Refusal),
@@ -42,7 +42,7 @@ pub fn table_of(file: &[u8]) -> [u8; 2040]
         let to = 510 * j;
         let start = 512 * (1 + j);
         let end = start + 510;
-        bytes::copy(&file[start..end], &mut table[to..]);
+        table[to..to + 510].copy_from_slice(&file[start..end]);
         j += 1;
     }
     table
@@ -53,7 +53,7 @@ fn write_block(part: &mut [u8], added: u32, body: &[u8])
     requires { (length body.now ≡ 510) × (512 ≤ length part.old) }
     ensures { part.new ≡ seal added body.now ++ drop 512 part.old }
 {
-    bytes::copy(body, part);
+    part[..510].copy_from_slice(body);
     block::seal(added, &mut part[..512]);
 }
 
