@@ -1,4 +1,6 @@
 // Claims about runs on any flowchart, in specs/ and proofs/, and one function that holds them.
+#![tactic(auto)]
+
 ghost use Rattle.run_claims.specs.Secrecy.{RunsAreSecret, RunsKeepPace};
 ghost use Rattle.run_claims.specs.Sets.{EmptyWhereUnmarked, SetsAreUnions, UnionAndKept, KeepsOneInput, OneArithmetic, SetAsRuled, SetsOnlyName};
 ghost use Rattle.run_claims.specs.Boxes.{NoOperationStops};

@@ -4,10 +4,9 @@ use Rattle.run_claims.proofs.Pace.{runs_keep_pace}
 use Rattle.run_claims.proofs.Marking.{empty_where_unmarked, sets_are_unions, union_and_kept, keeps_one_input, one_arithmetic, set_as_ruled, sets_only_name}
 use Rattle.run_claims.proofs.Stops.{no_operation_stops}
 use Rattle.run_claims.proofs.Editions.{others_alike, boxes_alike, second_saturates}
-use Rattle.run_claims.proofs.promised.Statement.{statement}
-use Rattle.run_claims.proofs.promised.Tie as tie
+use Rattle.run_claims.proofs.promised.Goals as goal
 
-returns : tie.Need-returns
+pub returns : goal.returns
 returns c = (
   runs_are_secret,
   runs_keep_pace,
@@ -23,6 +22,3 @@ returns c = (
   boxes_alike,
   second_saturates,
 )
-
-pub promised-spec : {M : Type 1} → statement M
-promised-spec = tie.close (tie.spec returns)
