@@ -1,8 +1,9 @@
 // Texts to standard output.
 use crate::text::part;
+use std::io;
 
-pub fn say(words: &[u8]) {
-    io::write_all(1, words);
+pub fn say(rt: &impl Print, words: &[u8]) -> io::Result<()> {
+    rt.write_all(words)
 }
 
 // The number at a place, 0 past the end.
@@ -14,18 +15,18 @@ pub fn at(numbers: &[u64], i: usize) -> u64 {
 }
 
 // A text, in which each % stands for the next of some numbers.
-pub fn fill(text: &[u8], numbers: &[u64]) {
+pub fn fill(rt: &impl Print, text: &[u8], numbers: &[u64]) -> io::Result<()> {
     let mut start: usize = 0;
     let mut next: usize = 0;
     let mut i: usize = 0;
     while i < text.len() {
         if text[i] == b'%' {
-            say(part(text, start, i));
-            io::print_decimal(1, at(numbers, next));
+            say(rt, part(text, start, i))?;
+            rt.print(at(numbers, next))?;
             next = std::num::wrapping_add_usize(next, 1);
             start = i + 1;
         }
         i += 1;
     }
-    say(part(text, start, text.len()));
+    say(rt, part(text, start, text.len()))
 }
