@@ -10,8 +10,8 @@ use mathlib.Core.Bool.{Bool, true, false, cond, false≢true}
 use mathlib.Core.Logic.{◌⊎◌, inl, inr}
 use native.Mathlib.Decide.{dec_lt}
 use native.Mathlib.Omega.{arith}
-use lib.ListN.{length, take, drop, length-drop, take-append-drop, drop_of_length-le}
-use lib.Seq.{take_at, drop_at, take_all, drop-drop}
+use lib.ListN.{length, take, drop, take-append-drop, drop_of_length-le}
+use lib.Seq.{take_at, drop_at, drop-drop}
 use borrow.Rule.Slice.PartMut.{put_mid}
 use Rattle.boxes.specs.Bytes.{at, box_of}
 use Rattle.boxes.proofs.Bools.{never_true}
@@ -122,11 +122,9 @@ all_rewritten old long =
     let none : drop 2040 old ≡ [] = drop_of_length-le old {i = 2040} (omega (arith, long)) in
     ap (λ (r : List ℕ). joined (rewritten_box old) 204 ++ r) none ∙ append-nil _
 
--- The rest of a table, lent from a on, came back as s, with a box at its front.
-pub store_box : (t b s : List ℕ) (a k : ℕ) → length t ≤ a + k → s ≡ b ++ drop 10 (take k (drop a t)) → put_mid a k t s ≡ take a t ++ (b ++ drop (a + 10) t)
-store_box t b s a k l e =
-    let all : length (drop a t) ≤ k = omega (arith, length-drop a t) in
-    rw (e, take_all k (drop a t) all, drop_of_length-le (drop a t) all, append-nil, drop-drop)
+-- Ten bytes of a table, lent from a on, came back as a box.
+pub store_box : (t b s : List ℕ) (a k : ℕ) → k ≡ 10 → s ≡ b → put_mid a k t s ≡ take a t ++ (b ++ drop (a + 10) t)
+store_box t b s a k l e = rw (e, l, drop-drop)
 
 -- A table with the box of a place as it was.
 pub leave_box : (t : List ℕ) (p : ℕ) → t ≡ take (10 * p) t ++ (box_of t p ++ drop (10 * p + 10) t)

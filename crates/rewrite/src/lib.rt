@@ -1,4 +1,6 @@
 // The rewriter: a decision between two copies into one variable becomes a choice without a branch.
+#![tactic(auto)]
+
 ghost use Rattle.std.specs.Prelude.{◌≡◌, ◌++◌, ◌+◌, ◌*◌, ◌<◌, length, take, drop};
 ghost use Rattle.boxes.specs.Bytes.{box_of};
 ghost use Rattle.rewrite.specs.Rewrite.{copy_alike, replaced_at, choice_of, rewritten_box, rewritten};
@@ -74,7 +76,7 @@ fn rewrite_place(table: &mut [u8], p: usize)
         let one = table[start + 5];
         let other = table[start + 6];
         let choice = choice_of(table, p, one, other);
-        bytes::copy(&choice, &mut table[start..]);
+        table[start..start + 10].copy_from_slice(&choice);
     }
 }
 
