@@ -1,5 +1,7 @@
 // What refuses a begin, an advance, a write back and a rewriting, in order. The refusals of the
 // other calls are one test each, and load's file has its own checks.
+#![tactic(auto)]
+
 ghost use Rattle.std.specs.Prelude.{◌≡◌};
 ghost use Rattle.block.specs.Refusing.{refusal};
 ghost use Rattle.calls.specs.Calls.{begin, advance, write_back, rewrite, at_rest, check};
@@ -8,7 +10,7 @@ use block::Refusal;
 use format::Header;
 
 // Done, or refused.
-#[derive(Drop)]
+#[derive(Clone, Copy)]
 pub enum Verdict {
     Done,
     Refused(Refusal),
@@ -16,7 +18,7 @@ pub enum Verdict {
 
 // What the refusals look at of a runner: the header of the chart held, whether a run is under way,
 // the least amount by which it may be advanced, and whether there is an ended run.
-#[derive(Drop)]
+#[derive(Clone, Copy)]
 pub struct Standing {
     pub header: Header,
     pub running: bool,
