@@ -1,5 +1,7 @@
 // Claims about a chart and its file, and about a rewritten table, in specs/ and proofs/, and one
 // function that holds them.
+#![tactic(auto)]
+
 ghost use Rattle.chart_claims.specs.Claims.{FileHasLength, ReproducesFile, ReproducesChart, ObeysRules, RuledIsLoaded, ShowsTheBox, StaysInRange};
 ghost use Rattle.chart_claims.specs.Exchanged.{ExchangeRefused, OutOfOrderRefused, OthersAddNothing};
 ghost use Rattle.chart_claims.specs.Rewritten.{RewrittenIsRuled, RewrittenByPlaces, RewrittenExactly, RewrittenOnce};

@@ -5,10 +5,9 @@ use Rattle.chart_claims.proofs.Rules.{obeys_rules, shows_the_box, stays_in_range
 use Rattle.chart_claims.proofs.Ruled.{ruled_is_loaded}
 use Rattle.chart_claims.proofs.Rewritten.{rewritten_is_ruled, rewritten_by_places, rewritten_exactly, rewritten_once}
 use Rattle.chart_claims.proofs.Bounds.{exact_room, last_box_shown, ends_exchanged, loads_within_bounds}
-use Rattle.chart_claims.proofs.promised.Statement.{statement}
-use Rattle.chart_claims.proofs.promised.Tie as tie
+use Rattle.chart_claims.proofs.promised.Goals as goal
 
-returns : tie.Need-returns
+pub returns : goal.returns
 returns c = (
   file_has_length,
   reproduces_file,
@@ -29,6 +28,3 @@ returns c = (
   ends_exchanged,
   loads_within_bounds,
 )
-
-pub promised-spec : {M : Type 1} → statement M
-promised-spec = tie.close (tie.spec returns)
