@@ -3,7 +3,7 @@ ghost use Rattle.std.specs.Prelude.{◌≡◌, [], cond, not, ◌&&◌, ◌+◌,
 ghost use Rattle.line.specs.Parsing.{is_digit, numbers_of, parse};
 
 // The numbers of a line, then zeros; none where the line is ill-formed.
-#[derive(Drop)]
+#[derive(Clone, Copy)]
 pub struct Numbers {
     pub numbers: [u32; 19],
     pub count: usize,
