@@ -1,5 +1,5 @@
-//! Links the proved libraries that `rt staticlib` wrote of `bench_checks`, `bench_rounds` and
-//! `test_script`.
+//! Links the proved libraries `bench_checks`, `bench_rounds` and `test_script`, which `bench/build`
+//! puts into target/staticlib.
 fn main() {
     let root = std::env::var("CARGO_MANIFEST_DIR").unwrap();
     println!("cargo:rustc-link-search=native={root}/../target/staticlib");
