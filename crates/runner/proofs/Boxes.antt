@@ -4,7 +4,7 @@
 use Prim.Native.Nat.{ℕ, zero, suc, ◌+◌, ◌-◌, ◌*◌, ◌%◌, ◌^◌, ◌<◌, ◌≤◌}
 use mathlib.Core.Path.{◌≡◌, refl, ap, sym, ◌∙◌, subst}
 use mathlib.Core.Logic.{◌⊎◌, inl, inr, ⊎_elim}
-use mathlib.Core.List.{List, [], ◌∷◌, map}
+use mathlib.Core.List.{List, [], ◌∷◌}
 use mathlib.Core.Bool.{Bool, true, false, cond}
 use native.Mathlib.Omega.{arith}
 use lib.Dec.{eqb, ltb}
@@ -14,7 +14,7 @@ use mir.Val.{Val}
 use denote.Laws.{Is}
 use denote.Shadow.{shadow}
 use denote.Array.{each}
-use denote.Struct.Field.{u16-field}
+use denote.Builtin.{u16}
 use denote.Struct.Declared.{row}
 use denote.Struct.Laws.{val}
 use Rattle.decode.specs.Decode.{box_from, box_at, Box, meaning}
@@ -95,9 +95,9 @@ stays_sixteen s mode masks b a small en ea t v m next d =
     (ap (λ (n : Masks). act_by (set_by n) mode b s.vars s.marks s.counter) (sym en) ∙ sym ea ∙ d)
     (stores_sixteen mode b s.vars s.marks s.counter))
 
--- What the type of a runner says of its limit, its steps and its marks: what owning the runner tells has a part
--- for each field, and of an array a part for each element.
-each_sixteen : (xs : List ℕ) (us : List Val) → shadow (each u16-field.row.Denot u16-field.row.own_val (map u16-field.into xs) us) → SixteenInputs xs
+-- What the type of a runner says of its limit, its steps and its marks: what owning the runner tells
+-- has a part for each field, and of an array a part for each element.
+each_sixteen : (xs : List ℕ) (us : List Val) → shadow (each u16.Denot u16.own_val xs us) → SixteenInputs xs
 each_sixteen [] us p v = omega arith
 each_sixteen (x ∷ xs) [] p v = absurd p
 each_sixteen (x ∷ xs) (u ∷ us) p zero = p.0.1
@@ -172,6 +172,10 @@ pub allotted_fits : (asked limit before boxes end : ℕ) → Allotted asked limi
 allotted_fits asked limit before zero end h fits = omega arith
 allotted_fits asked limit before (suc zero) end h fits = omega arith
 allotted_fits asked limit before (suc (suc k)) end h fits = let l = h.0 (suc k) (omega arith) (omega arith) in omega arith
+
+-- Where boxes are left of those allotted, boxes are to go of those asked for.
+pub to_go : (asked limit before boxes end n left : ℕ) → Allotted asked limit before boxes end → n + boxes ≡ asked + left → 0 < left → 0 < n
+to_go asked limit before boxes end n left h e pos = ⊎_elim (λ w. omega (arith, w.0)) (λ w. omega (arith, w.0)) h.1
 
 -- A run from `first` of which n of the boxes asked for are to go, and `left` of those allotted:
 -- where none is left, it has come to what all of them come to.

@@ -1,4 +1,6 @@
 // The runner and its seven calls.
+#![tactic(auto)]
+
 ghost use Rattle.std.specs.Prelude.{◌≡◌, cond, [], ◌-◌, eqb, ltb, leb};
 ghost use Rattle.block.specs.Refusing.{refusal};
 ghost use Rattle.marks.specs.Marks.{mode_of, hides};
@@ -31,7 +33,7 @@ const SPENT: u8 = 4;
 // `state` is one of the states above; `total` is the steps of an ended run, `value` its value, and
 // `named` the set of the inputs that its notice names. What a run stores to is not beside the
 // table, so that the table is not copied with it.
-#[derive(Drop)]
+#[derive(Clone, Copy)]
 pub struct Runner {
     header: Header,
     table: [u8; 2040],
@@ -49,41 +51,41 @@ pub struct Runner {
 }
 
 // What load tells.
-#[derive(Drop)]
+#[derive(Clone, Copy)]
 pub enum LoadTold {
     Chart { inputs: u8, boxes: u8 },
     Refused(Refusal),
 }
 
-#[derive(Drop)]
+#[derive(Clone, Copy)]
 pub struct Loaded {
     pub runner: Runner,
     pub told: LoadTold,
 }
 
 // A begin, an abandon or a rewriting.
-#[derive(Drop)]
+#[derive(Clone, Copy)]
 pub struct Changed {
     pub runner: Runner,
     pub told: Verdict,
 }
 
 // What advance tells: running or ended, and the steps so far.
-#[derive(Drop)]
+#[derive(Clone, Copy)]
 pub enum AdvanceTold {
     Running(u32),
     Ended(u32),
     Refused(Refusal),
 }
 
-#[derive(Drop)]
+#[derive(Clone, Copy)]
 pub struct Advanced {
     pub runner: Runner,
     pub told: AdvanceTold,
 }
 
 // What answer tells: the ending.
-#[derive(Drop)]
+#[derive(Clone, Copy)]
 pub enum AnswerTold {
     Value { value: u32, steps: u32 },
     Notice { named: u16, steps: u32 },
@@ -390,7 +392,7 @@ fn amount(verdict: Verdict, m: u32) -> u32
 
 // What an advance runs of the boxes asked for, and the state that the run has after them where none
 // of them ends it: all of them, or those that are left to the limit, after which the run is spent.
-#[derive(Drop)]
+#[derive(Clone, Copy)]
 struct Portion {
     boxes: u32,
     end: u8,
@@ -425,7 +427,7 @@ fn left_to(limit: u32, steps: u32) -> u32
 
 // What is disclosed of an ended run besides its value: its state, the total of its steps, and the
 // set that it names. A value keeps its count; where counts are hidden, nothing else does.
-#[derive(Drop)]
+#[derive(Clone, Copy)]
 struct Remains {
     state: u8,
     total: u32,

@@ -1,0 +1,8 @@
+-- `dropped` stores what the definition says.
+use mathlib.Core.Path.{refl}
+use Rattle.runner.specs.State.{dropped}
+use Rattle.runner.proofs.Runner.dropped.Goals as goal
+
+pub returns : goal.returns
+unfolding dropped
+returns c = refl

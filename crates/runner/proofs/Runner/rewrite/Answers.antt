@@ -1,0 +1,20 @@
+-- The verdict is that of the rules of the rewriter; where it is done, the table is rewritten in its
+-- own place and nothing of a run is held.
+use mathlib.Core.Path.{ap, sym, ◌∙◌}
+use Rattle.calls.specs.Calls.{rewrite, check}
+use Rattle.runner.specs.State.{dropped}
+use Rattle.runner.proofs.Outcomes.{rewrite_accepts, rewrite_refuses}
+use Rattle.runner.proofs.Runner.rewrite.Goals as goal
+
+pub returns-in-Done : goal.returns-in-Done
+unfolding dropped
+returns-in-Done c =
+    let r = c.args.self in
+    let accepted = c.in-Done.is in
+    rw accepted
+    (rewrite_accepts r _ c.dropped-runner.result (sym accepted ∙ c.check_rewrite-told.ensures ∙ ap (check rewrite) c.standing_of.ensures) c.rewrite.ensures c.dropped-runner.ensures)
+
+pub returns-in-Refused : goal.returns-in-Refused
+returns-in-Refused c =
+    let r = c.args.self in
+    rewrite_refuses r c.check_rewrite-told.result _ (c.check_rewrite-told.ensures ∙ ap (check rewrite) c.standing_of.ensures) c.in-Refused.is
