@@ -25,6 +25,7 @@ fn in_other(header: Header) -> Header
 
 // Whether an edition takes a box as it stands in the other: byte 2 is the operation of an
 // assignment alone.
+#[tactic(auto, unfolding(crate::specs::Convert::takes))]
 fn takes(edition: u8, b: &[u8]) -> bool
     requires { length b.now ≡ 10 }
     ensures { result ≡ takes edition b.now }
