@@ -1,4 +1,6 @@
 // Claims about the calls of the runner, in specs/ and proofs/, and one function that holds them.
+#![tactic(auto)]
+
 ghost use Rattle.call_claims.specs.Demand3.{Demand3};
 ghost use Rattle.call_claims.specs.Parameters.{HalvesByParameters};
 ghost use Rattle.call_claims.specs.OneFile.{OneFile};

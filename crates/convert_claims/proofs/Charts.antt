@@ -34,7 +34,7 @@ use Rattle.calls.proofs.Permits.{rewrites_second}
 use Rattle.runner.specs.declared.Runner.{Runner}
 use Rattle.runner.specs.State.{flowchart_of, run_in, standing_of, runner_of, idle, ended_with, dropped, flow_in, ran, resumed}
 use Rattle.runner.specs.Outcomes.{chart, Told, Outcome, says, after, outcome_by, call}
-use Rattle.call_claims.specs.Lists.{Accepted, tells, Along}
+use Rattle.call_claims.specs.Lists.{tells, Along}
 use Rattle.call_claims.proofs.ChartLaws.{load_does, loads_file}
 use Rattle.convert_claims.specs.Conversions.{TellsNoEdition, EndsAlike, TellsAlike}
 use Rattle.convert_claims.proofs.Boxes.{other_is, meant_alike}

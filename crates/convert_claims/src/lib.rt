@@ -1,4 +1,6 @@
 // Claims about the converter, in specs/ and proofs/, and one function that holds them.
+#![tactic(auto)]
+
 ghost use Rattle.convert_claims.specs.Conversions.{ConvertsToOther, ConvertsIntoAny, ConvertsBack, EndsAlike, TellsAlike};
 ghost use Rattle.convert_claims.specs.Conversions.{RefusesFirstUntaken, KindsOfBoxes, RefusedAsLoaded, RefusalLeavesBuffer};
 

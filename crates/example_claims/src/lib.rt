@@ -1,5 +1,7 @@
 // What does not hold, and instances of claims, in specs/ and proofs/, and one function that holds
 // them.
+#![tactic(auto)]
+
 ghost use Rattle.example_claims.specs.Refuted.{BareIsNotSecret, AnotherModeIsTold, AnotherLimitIsTold, BareAnswersMore, SmallerLimitAnswersLess};
 ghost use Rattle.example_claims.specs.Refuted.{AdvancesPartAtTheEnd, NoLoadDuringARun, AnotherLoadIsTold, HighWaterNamesNone, SurveillanceNamesSome};
 ghost use Rattle.example_claims.specs.Refuted.{HighWaterAdvancesPart, HighWaterSumEndsNothing, HighWaterCountsNoBoxes, SurveillanceTellsCounts, WrittenBackIsTold, EditionsEndApart};

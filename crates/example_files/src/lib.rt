@@ -1,4 +1,6 @@
 // Tables of files, in specs/ and proofs/, and one function that holds them.
+#![tactic(auto)]
+
 ghost use Rattle.example_files.specs.Files.{FileExamples};
 ghost use Rattle.example_files.specs.Checks.{CheckCases, BlocksExchanged};
 ghost use Rattle.example_files.specs.Conversions.{ConversionCases};

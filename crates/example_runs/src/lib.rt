@@ -1,4 +1,6 @@
 // Tables of runs, in specs/ and proofs/, and one function that holds them.
+#![tactic(auto)]
+
 ghost use Rattle.example_runs.specs.Runs.{PaperCases, NamingCases, HiddenCases};
 ghost use Rattle.example_runs.specs.Editions.{EditionCases};
 ghost use Rattle.example_runs.specs.Rewriting.{RewritingCases};

@@ -2,10 +2,9 @@
 use Rattle.convert_claims.proofs.Boxes.{kinds_of_boxes}
 use Rattle.convert_claims.proofs.Files.{converts_to_other, converts_into_any, converts_back, refused_as_loaded, refuses_first_untaken, refusal_leaves_buffer}
 use Rattle.convert_claims.proofs.Charts.{ends_alike, tells_alike}
-use Rattle.convert_claims.proofs.promised.Statement.{statement}
-use Rattle.convert_claims.proofs.promised.Tie as tie
+use Rattle.convert_claims.proofs.promised.Goals as goal
 
-returns : tie.Need-returns
+pub returns : goal.returns
 returns c = (
   converts_to_other,
   converts_into_any,
@@ -17,6 +16,3 @@ returns c = (
   refused_as_loaded,
   refusal_leaves_buffer,
 )
-
-pub promised-spec : {M : Type 1} → statement M
-promised-spec = tie.close (tie.spec returns)

@@ -7,10 +7,9 @@ use Rattle.call_claims.proofs.Naming.{marks_withheld, names_withheld, surveillan
 use Rattle.call_claims.proofs.HighWater.{high_water_tells, high_water_answers, high_water_ends}
 use Rattle.call_claims.proofs.Replies.{replies_distinct}
 use Rattle.call_claims.proofs.Bounds.{answers_at_the_limit, runs_within_bounds, written_into_exact_room, held_within_bounds, states_within_bounds, names_within_bounds}
-use Rattle.call_claims.proofs.promised.Statement.{statement}
-use Rattle.call_claims.proofs.promised.Tie as tie
+use Rattle.call_claims.proofs.promised.Goals as goal
 
-returns : tie.Need-returns
+pub returns : goal.returns
 returns c = (
   demand3,
   halves_by_parameters,
@@ -43,6 +42,3 @@ returns c = (
   states_within_bounds,
   names_within_bounds,
 )
-
-pub promised-spec : {M : Type 1} → statement M
-promised-spec = tie.close (tie.spec returns)
