@@ -1,4 +1,6 @@
 // What the run program prints for its chart file and for a line, at the front of a lent buffer.
+#![tactic(auto)]
+
 ghost use Rattle.std.specs.Prelude.{◌≡◌, length};
 ghost use Rattle.io.specs.Counts.{IsPrefixLen};
 ghost use Rattle.texts.specs.Printing.{printed, printed_length};
@@ -9,7 +11,7 @@ use calls::Verdict;
 use runner::{AnswerTold, LoadTold, Runner};
 
 // The runner afterwards, how many bytes were printed, and whether a chart was loaded.
-#[derive(Drop)]
+#[derive(Clone, Copy)]
 pub struct Opened {
     pub runner: Runner,
     pub length: usize,

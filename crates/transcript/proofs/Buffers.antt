@@ -4,15 +4,13 @@
 -- nothing.
 use Rattle.std.proofs.Common.{◌≡◌, ℕ, suc, ◌+◌, ◌-◌, ◌<◌, ◌≤◌, min, Bool, true, false, ◌⊎◌, List, [], ◌∷◌, ◌++◌, length, get_or, take, drop, set, sym, refl, ap, ◌∙◌, subst, inl, inr, append_assoc, append-nil, add-one, arith, length-append, length-drop, length-set, drop_of_length-le, length-take, length-take-le, get_or-drop, take_all, take-suc, take-take, drop-drop, take_at, get_or-append-add, le-ltb, lt-ltb}
 use native.Mathlib.Decide.{ℕ_discrete, dec_lt}
-use lib.Seq.{take-length}
 use borrow.Rule.Slice.PartMut.{put_mid}
 use Rattle.lists.proofs.Parts.{take_min, drop_take}
 use Rattle.lists.proofs.Fronts.{front, then_front, end_front}
-use Rattle.bytes.specs.Bytes.{slice, index_of}
 use Rattle.texts.specs.Printing.{printed, printed_length}
 use Rattle.runner.specs.declared.Runner.{Runner}
 use Rattle.reply.specs.Reply.{respond}
-use Rattle.transcript.specs.Lines.{lines_in}
+use Rattle.transcript.specs.Lines.{lines_in, newline_at}
 use Rattle.transcript.specs.Session.{following, Portion, none, onto, portion, feed, fed_of, clipped}
 use Rattle.transcript.proofs.Lines.{last_line, first_line, last_line_lem}
 
@@ -83,7 +81,7 @@ module _ (r : Runner) (lines : ℕ) (over : Bool) (input out₀ : List ℕ) wher
         by [] q = refl
         by (line ∷ ls) q = rw (lt-ltb (length out₀ - size) 64 q) refl
 
-    pub ends_open : over ≡ false → length (drop at input) ≤ index_of 10 (drop at input) → rest count at size ≡ none count
+    pub ends_open : over ≡ false → length (drop at input) ≤ newline_at (drop at input) → rest count at size ≡ none count
     unfolding rest portion last_line
     ends_open o l = rw (o, last_line_lem false (drop at input) l, no_last (drop at input)) refl
       where
@@ -92,7 +90,7 @@ module _ (r : Runner) (lines : ℕ) (over : Bool) (input out₀ : List ℕ) wher
         no_last (b ∷ x) = refl
 
     -- A line is answered, and its text put behind the others.
-    module _ (i : ℕ) (found : i ≡ index_of 10 (drop at input)) (some : (i < length (drop at input)) ⊎ ((over ≡ true) × (at < length input))) where
+    module _ (i : ℕ) (found : i ≡ newline_at (drop at input)) (some : (i < length (drop at input)) ⊎ ((over ≡ true) × (at < length input))) where
       abbrev left : List ℕ
       left = drop at input
 
@@ -209,14 +207,13 @@ module _ (r : Runner) (lines : ℕ) (over : Bool) (input out₀ : List ℕ) wher
     abbrev answer : List ℕ
     answer = respond r count' (take (end - at) (drop at input))
 
-    pub turn_done : Feeds out count at size → at < length input → end ≡ at + index_of 10 (slice at (length input) input)
+    pub turn_done : Feeds out count at size → at < length input → end ≡ at + newline_at (drop at input)
         → end ≤ length input → (end ≡ length input → ⊥) ⊎ (over ≡ true)
         → count' ≡ following count → k ≡ length out - size → 64 ≤ k → s ≡ printed_length answer (length (take k (drop size out)))
         → part ≡ printed answer (take k (drop size out)) → length part ≡ k → Feeds (put_mid size k out part) count' (min (end + 1) (length input)) (size + s)
-    unfolding slice at_now text
+    unfolding at_now text
     turn_done h l e u w c q m es ep el =
-        let whole : slice at (length input) input ≡ drop at input = ap (drop at) (take-length input) in
-        let found : end - at ≡ index_of 10 (drop at input) = omega (arith, ap (index_of 10) whole) in
+        let found : end - at ≡ newline_at (drop at input) = omega arith in
         let far : at + (end - at) + 1 ≡ end + 1 = omega arith in
         let line : List ℕ = take (end - at) (drop at input) in
         let es' : s ≡ printed_length (respond r (following count) line) (length (take k (drop size out)))
@@ -235,12 +232,9 @@ module _ (r : Runner) (lines : ℕ) (over : Bool) (input out₀ : List ℕ) wher
         some (inr o) = inr (o, l)
 
 -- No newline was found.
-pub last_open : (input : List ℕ) (at end : ℕ) → at ≤ length input → end ≡ at + index_of 10 (slice at (length input) input) → end ≡ length input
-    → length (drop at input) ≤ index_of 10 (drop at input)
-unfolding slice
-last_open input at end l e z =
-    let whole : slice at (length input) input ≡ drop at input = ap (drop at) (take-length input) in
-    omega (arith, length-drop at input, ap (index_of 10) whole)
+pub last_open : (input : List ℕ) (at end : ℕ) → at ≤ length input → end ≡ at + newline_at (drop at input) → end ≡ length input
+    → length (drop at input) ≤ newline_at (drop at input)
+last_open input at end l e z = omega (arith, length-drop at input)
 
 -- A loop that moves bytes to the front.
 module _ (buffer₀ : List ℕ) (at last : ℕ) where

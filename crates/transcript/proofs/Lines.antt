@@ -1,9 +1,9 @@
 -- Laws of the lines of some bytes, for lines that may lack their newline and for those that may
 -- not: the first line, by the place of the first newline (first_line, last_line_lem) and by what is
 -- known of the lines (peel), with bytes that come later. Assumes nothing.
-use Rattle.std.proofs.Common.{◌≡◌, ℕ, suc, ◌<◌, ◌≤◌, Bool, true, false, cond, eqb, List, [], ◌∷◌, ◌++◌, length, take, drop, sym, refl, ap, ◌∙◌, arith}
-use Rattle.bytes.specs.Bytes.{index_after, index_of}
-use Rattle.transcript.specs.Lines.{prefixed, lines_in, lines_of, whole_lines}
+use Rattle.std.proofs.Common.{◌≡◌, ℕ, suc, ◌<◌, ◌≤◌, Bool, true, false, cond, eqb, List, [], ◌∷◌, ◌++◌, length, get_or, take, drop, sym, refl, ap, ◌∙◌, arith, drop-cons, drop_of_length-le}
+use borrow.Author.Tests.{eq-eqb, ne_eqb}
+use Rattle.transcript.specs.Lines.{prefixed, lines_in, lines_of, whole_lines, newline_at}
 
 pub clash : {A : Type 0} → ◌≡◌ {A = ℕ} 0 1 → A
 clash e = absurd (omega arith)
@@ -26,29 +26,42 @@ prefixed_last true b (c ∷ bytes) = refl
 prefixed_last false b [] = refl
 prefixed_last false b (c ∷ bytes) = refl
 
+-- The first newline from a byte on, by that byte.
+pub newline_here : (bytes : List ℕ) (at : ℕ) → at < length bytes → get_or bytes at 0 ≡ 10 → newline_at (drop at bytes) ≡ 0
+unfolding newline_at
+newline_here bytes at l e = rw (drop-cons bytes at 0, eq-eqb (get_or bytes at 0) 10 e) refl
+
+pub newline_later : (bytes : List ℕ) (at : ℕ) → at < length bytes → (get_or bytes at 0 ≡ 10 → ⊥) → newline_at (drop at bytes) ≡ suc (newline_at (drop (suc at) bytes))
+unfolding newline_at
+newline_later bytes at l z = rw (drop-cons bytes at 0, ne_eqb (get_or bytes at 0) 10 z) refl
+
+pub newline_none : (bytes : List ℕ) (at : ℕ) → length bytes ≤ at → newline_at (drop at bytes) ≡ 0
+unfolding newline_at
+newline_none bytes at l = rw (drop_of_length-le bytes l) refl
+
 -- The line before the first newline.
-pub first_line : (e : Bool) (bytes : List ℕ) → index_of 10 bytes < length bytes
-    → lines_in e bytes ≡ take (index_of 10 bytes) bytes ∷ lines_in e (drop (suc (index_of 10 bytes)) bytes)
-unfolding lines_in index_of index_after
+pub first_line : (e : Bool) (bytes : List ℕ) → newline_at bytes < length bytes
+    → lines_in e bytes ≡ take (newline_at bytes) bytes ∷ lines_in e (drop (suc (newline_at bytes)) bytes)
+unfolding lines_in newline_at
 first_line e [] l = absurd (omega arith)
 first_line e (b ∷ bytes) l = by (eqb b 10) l (first_line e bytes)
   where
     i : ℕ
-    i = index_of 10 bytes
+    i = newline_at bytes
 
-    by : (t : Bool) → index_after t i < suc (length bytes)
+    by : (t : Bool) → cond t 0 (suc i) < suc (length bytes)
         → (i < length bytes → lines_in e bytes ≡ take i bytes ∷ lines_in e (drop (suc i) bytes))
-        → cond t ([] ∷ lines_in e bytes) (prefixed e b (lines_in e bytes)) ≡ take (index_after t i) (b ∷ bytes) ∷ lines_in e (drop (suc (index_after t i)) (b ∷ bytes))
+        → cond t ([] ∷ lines_in e bytes) (prefixed e b (lines_in e bytes)) ≡ take (cond t 0 (suc i)) (b ∷ bytes) ∷ lines_in e (drop (suc (cond t 0 (suc i))) (b ∷ bytes))
     by true l h = refl
     by false l h = ap (prefixed e b) (h (omega arith)) ∙ prefixed_more e b (take i bytes) (lines_in e (drop (suc i) bytes))
 
 -- Bytes without a newline.
-pub last_line_lem : (e : Bool) (bytes : List ℕ) → length bytes ≤ index_of 10 bytes → lines_in e bytes ≡ last_line e bytes
-unfolding lines_in last_line index_of index_after
+pub last_line_lem : (e : Bool) (bytes : List ℕ) → length bytes ≤ newline_at bytes → lines_in e bytes ≡ last_line e bytes
+unfolding lines_in last_line newline_at
 last_line_lem e [] l = refl
 last_line_lem e (b ∷ bytes) l = by (eqb b 10) l (last_line_lem e bytes)
   where
-    by : (t : Bool) → suc (length bytes) ≤ index_after t (index_of 10 bytes) → (length bytes ≤ index_of 10 bytes → lines_in e bytes ≡ last_line e bytes)
+    by : (t : Bool) → suc (length bytes) ≤ cond t 0 (suc (newline_at bytes)) → (length bytes ≤ newline_at bytes → lines_in e bytes ≡ last_line e bytes)
         → cond t ([] ∷ lines_in e bytes) (prefixed e b (lines_in e bytes)) ≡ last_line e (b ∷ bytes)
     by true l h = absurd (omega arith)
     by false l h = ap (prefixed e b) (h (omega arith)) ∙ prefixed_last e b bytes

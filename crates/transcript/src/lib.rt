@@ -1,14 +1,17 @@
 // The run program between its reads and its writes: lines answered into a buffer until it has no
 // room, what is kept of a line that has not ended, and the turns of a session, which wants
 // something written or read until it stops.
-ghost use Rattle.std.specs.Prelude.{◌≡◌, ◌≤◌, ◌++◌, length, take, drop};
+#![tactic(auto)]
+
+ghost use Rattle.std.specs.Prelude.{◌≡◌, ◌≤◌, ◌+◌, ◌++◌, length, take, drop};
 ghost use Rattle.io.specs.Counts.{IsPrefixLen};
+ghost use Rattle.transcript.specs.Lines.{newline_at};
 ghost use Rattle.transcript.specs.Session.{feed, fed_of, clipped, turn, session_state, turn_of, after_read};
 
 use runner::Runner;
 
 // The number of lines so far, how many bytes of input were taken, and the length of the text.
-#[derive(Drop)]
+#[derive(Clone, Copy)]
 pub struct Fed {
     pub count: u64,
     pub taken: usize,
@@ -17,7 +20,7 @@ pub struct Fed {
 
 // Where a session stands: the number of lines answered, the bytes at hand, which are those of the
 // input's buffer from `at` to `end`, and whether the input is over.
-#[derive(Drop)]
+#[derive(Clone, Copy)]
 pub struct Session {
     pub count: u64,
     pub at: usize,
@@ -25,7 +28,7 @@ pub struct Session {
     pub over: bool,
 }
 
-#[derive(Drop)]
+#[derive(Clone, Copy)]
 pub enum Wanted {
     Write,
     Read,
@@ -33,11 +36,27 @@ pub enum Wanted {
 }
 
 // What a turn wants, and the length of the text where one is to be written.
-#[derive(Drop)]
+#[derive(Clone, Copy)]
 pub struct Turned {
     pub session: Session,
     pub wanted: Wanted,
     pub length: usize,
+}
+
+// The place of the first newline from `at` on, and the input's end where there is none.
+fn line_end(input: &[u8], at: usize) -> usize
+    requires { at ≤ length input.now }
+    ensures place { result ≡ at + newline_at (drop at input.now) }
+    ensures in_bounds { result ≤ length input.now }
+{
+    let mut end = at;
+    while end < input.len() {
+        if input[end] == b'\n' {
+            break;
+        }
+        end += 1;
+    }
+    end
 }
 
 // Answers the lines that end in the input and, where the input is over, its last line, at the front
@@ -50,7 +69,7 @@ pub fn feed(runner: Runner, lines: u64, over: bool, input: &[u8], out: &mut [u8]
     let mut at: usize = 0;
     let mut length: usize = 0;
     while at < input.len() {
-        let end = bytes::scan::find(input, at, input.len(), b'\n');
+        let end = line_end(input, at);
         if end == input.len() {
             if !over {
                 break;
@@ -59,7 +78,7 @@ pub fn feed(runner: Runner, lines: u64, over: bool, input: &[u8], out: &mut [u8]
         if out.len() - length < 64 {
             break;
         }
-        count = std::num::wrapping_add_u64(count, 1);
+        count = count.wrapping_add(1);
         let size = reply::respond(runner, count, &input[at..end], &mut out[length..]);
         length = length + size;
         at = widen::lesser(end + 1, input.len());
@@ -94,7 +113,7 @@ pub fn keep(at: usize, end: usize, buffer: &mut [u8]) -> usize
 
 // A turn of a session, with the input's buffer and one for texts.
 pub fn turn(runner: Runner, session: Session, buffer: &mut [u8], out: &mut [u8]) -> Turned
-    ensures out_after { turn_of result buffer.new out.new ≡ turn runner (length out.old) (session_state session buffer.old) }
+    ensures turned { turn_of result buffer.new out.new ≡ turn runner (length out.old) (session_state session buffer.old) }
     ensures end_in_bounds { result.session.end ≤ length buffer.new }
     ensures prefix_len { IsPrefixLen result.length out.new }
 {
