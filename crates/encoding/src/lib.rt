@@ -1,5 +1,7 @@
 // What the runner's calls and the converter tell, as three numbers: for callers in other languages,
 // and for tests.
+#![tactic(auto)]
+
 pub mod kinds;
 
 ghost use Rattle.std.specs.Prelude.{◌≡◌};
@@ -13,7 +15,7 @@ use chart::Written;
 use runner::{AdvanceTold, AnswerTold, LoadTold};
 
 // A kind, one of `kinds`, and its two values.
-#[derive(Drop)]
+#[derive(Clone, Copy)]
 pub struct Encoded {
     pub kind: u32,
     pub first: u64,
