@@ -47,6 +47,7 @@ fn at_rest(standing: Standing) -> Verdict
 }
 
 // The verdict on a begin.
+#[tactic(auto, using(crate::proofs::Refusals::tells_mode, crate::proofs::Refusals::tells_count, crate::proofs::Refusals::tells_allowed, crate::proofs::Refusals::tells_limit, crate::proofs::Refusals::tells_done))]
 pub fn check_begin(
     standing: Standing,
     mode: u32,
@@ -105,6 +106,7 @@ pub fn check_write_back(standing: Standing, buffer: &[u8]) -> Verdict
 }
 
 // The verdict on a rewriting of the chart held.
+#[tactic(auto, using(crate::proofs::Refusals::tells_first, crate::proofs::Refusals::tells_second))]
 pub fn check_rewrite(standing: Standing) -> Verdict
     ensures { result ≡ check rewrite standing }
 {
