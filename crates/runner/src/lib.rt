@@ -146,6 +146,7 @@ impl Runner {
     }
 
     // The chart of a file replaces the one held.
+    #[tactic(auto, using(crate::proofs::Outcomes::load_busy))]
     pub fn load(mut self, file: &[u8]) -> Loaded
         ensures { outcome (load_reply result.told) [] result.runner ≡ call (load file.now) self }
     {
@@ -303,6 +304,7 @@ impl Runner {
     }
 
     // The ending. The runner that follows is the one lent: nothing is handed back.
+    #[tactic(auto, using(crate::proofs::Outcomes::answer_refuses, crate::proofs::Outcomes::answer_value, crate::proofs::Outcomes::answer_notice, crate::proofs::Outcomes::answer_spent))]
     pub fn answer(self) -> AnswerTold
         ensures { outcome (answer_reply result) [] self ≡ call answer self }
     {

@@ -1,19 +1,17 @@
 -- A run under way refuses; else the file's checks decide.
 use mathlib.Core.Path.{sym, ◌∙◌}
+use borrow.Author.Rules.{rules}
 use Rattle.runner.specs.State.{dropped}
-use Rattle.runner.proofs.Outcomes.{load_busy, load_accepts, load_refuses}
+use Rattle.runner.proofs.Outcomes.{load_accepts, load_refuses}
 use Rattle.runner.proofs.Runner.load.Goals as goal
-
-pub returns-then-self-eq-RUNNING : goal.returns-then-self-eq-RUNNING
-returns-then-self-eq-RUNNING c = load_busy _ _ c.refusal.result c.refusal.ensures c.if-self-eq-RUNNING.true
 
 pub returns-in-Accepted : goal.returns-in-Accepted
 unfolding dropped
 returns-in-Accepted c =
-    load_accepts _ _ _ _ c.dropped-runner.result c.if-self-eq-RUNNING.false
+    load_accepts _ _ _ _ c.dropped-runner.result (search rules)
     (sym c.check_file-checked.ensures ∙ c.in-Accepted.is)
     c.table_of-table.ensures
     c.dropped-runner.ensures
 
 pub returns-in-Refused : goal.returns-in-Refused
-returns-in-Refused c = load_refuses _ _ _ c.if-self-eq-RUNNING.false (sym c.check_file-checked.ensures ∙ c.in-Refused.is)
+returns-in-Refused c = load_refuses _ _ _ (search rules) (sym c.check_file-checked.ensures ∙ c.in-Refused.is)
