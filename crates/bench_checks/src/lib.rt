@@ -1,6 +1,8 @@
 // For the benchmark, to be timed: health checks. They stand alone so that each call of the runner
 // has one caller, as in a program, and is compiled into it. They have no equation: the benchmark
 // compares their sums with those of plain Rust.
+#![tactic(auto)]
+
 use bench_rounds::{fold_told, holding};
 
 // Health checks: begin, advance to the end, answer. Input 0 is one more each round. Of more than 32

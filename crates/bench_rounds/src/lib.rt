@@ -1,5 +1,7 @@
 // For the benchmark, to be timed: many rounds of one call; what each tells is folded into a sum.
 // The functions have no equations: the benchmark compares the sums with those of plain Rust.
+#![tactic(auto)]
+
 ghost use Rattle.std.specs.Prelude.{◌≤◌};
 
 use encoding::Encoded;
