@@ -1,4 +1,6 @@
 // Claims about the run program, in specs/ and proofs/, and one function that holds them.
+#![tactic(auto)]
+
 ghost use Rattle.program_claims.specs.LineClaims.{LinesEnd, LinesApart};
 ghost use Rattle.program_claims.specs.SessionClaims.{WritesTranscript, AnswersFirst, BeginsTranscript, WritesEnd, FirstBytes};
 

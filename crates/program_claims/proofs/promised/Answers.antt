@@ -2,11 +2,7 @@
 use Rattle.program_claims.proofs.LineLaws.{lines_end, lines_apart}
 use Rattle.program_claims.proofs.Sessions.{writes_transcript, answers_first, begins_transcript, writes_end}
 use Rattle.program_claims.proofs.Files.{first_bytes}
-use Rattle.program_claims.proofs.promised.Statement.{statement}
-use Rattle.program_claims.proofs.promised.Tie as tie
+use Rattle.program_claims.proofs.promised.Goals as goal
 
-returns : tie.Need-returns
+pub returns : goal.returns
 returns c = (lines_end, lines_apart, writes_transcript, answers_first, begins_transcript, writes_end, first_bytes)
-
-pub promised-spec : {M : Type 1} → statement M
-promised-spec = tie.close (tie.spec returns)
