@@ -22,7 +22,7 @@ returns-then-count-eq0 c =
 pub returns : goal.returns
 returns c =
     let a = c.args in
-    let went = rw (to_z-of_z w64 a.got c.ranges.got) at c.if-got-lt0.false in
+    let came = rw (to_z-of_z w64 a.got c.ranges.got) at c.if-got-lt0.false in
     let counted = rw (to_z-of_z w64 a.got c.ranges.got) at c.count-count.ensures.value in
-    read_some a.buffer.now a.session c.lesser-end.result c.lesser-at.result c.lesser-end.ensures c.lesser-at.ensures a.got went
+    read_some a.buffer.now a.session c.lesser-end.result c.lesser-at.result c.lesser-end.ensures c.lesser-at.ensures a.got came
     c.count-count.result counted c.if-count-eq0.false
