@@ -13,6 +13,8 @@
 //   7 convert        where the file starts, its length, how many bytes of the buffer are lent
 //   8 rewrite
 // A kind from 9 on is no call: it tells `NO_CALL`, and nothing is done.
+#![tactic(auto)]
+
 use encoding::{Encoded, kinds};
 use runner::Runner;
 
@@ -21,7 +23,7 @@ const NO_CALL: u32 = 16;
 
 // After a call: the runner, what was told, and a sum over the bytes of a lent buffer or a returned
 // part.
-#[derive(Drop)]
+#[derive(Clone, Copy)]
 struct Turn {
     runner: Runner,
     told: Encoded,
@@ -163,12 +165,7 @@ fn put(told: &mut [u32], i: usize, made: Encoded, sum: u32) {
 // Makes the calls of a list, on a new runner, and answers how many there are. Each tells four
 // numbers: the three of `encoding`, and the sum; calls past the room for them are made as well.
 // Numbers that are too few for one more call are not read.
-pub fn flow_script(
-    files: &[u8],
-    words: &[u32],
-    told: &mut [u32],
-    buf: &mut [u8],
-) -> usize {
+pub fn flow_script(files: &[u8], words: &[u32], told: &mut [u32], buf: &mut [u8]) -> usize {
     let calls = words.len() / 24;
     let mut runner = Runner::new();
     let mut i: usize = 0;
