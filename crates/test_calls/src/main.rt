@@ -1,15 +1,18 @@
 // Makes the lists of calls that standard input has, each list by `flow_script` at once, and prints
 // what each call tells and how many calls were made. The file `stdin` says what its lines are. The
 // functions have no equations: what is printed is compared.
-mod calls;
+#![tactic(auto)]
+
+mod call_lines;
 mod list;
 mod report;
 
 use list::{List, numbers_to};
+use std::io;
 use test_samples::files::{File, front, low};
 use test_text::print::{fill, say};
 use test_text::text::{number, part};
-use test_text::{edits, letters};
+use test_text::{edits, input, letters};
 
 // First two letters, as in `letters`.
 const KEEP: u32 = 0x6b65;
@@ -22,38 +25,39 @@ const BUFFER: u32 = 0x6275;
 
 const MAKE: u32 = 0x6d61;
 
-fn wrong_line(list: List, line: &[u8]) -> List {
-    say(b"wrong line: ");
-    say(line);
-    say(b"\n");
-    list
+fn wrong_line(rt: &impl Print, list: List, line: &[u8]) -> io::Result<List> {
+    say(rt, b"wrong line: ")?;
+    say(rt, line)?;
+    say(rt, b"\n")?;
+    Ok(list)
 }
 
 // A line adds to the list or changes what is lent to it; one that is only printed has its turn when
 // the list is made.
-fn add(list: List, line: &[u8], file: &File) -> List {
+fn add(rt: &impl Print, list: List, line: &[u8], file: &File) -> io::Result<List> {
     let first = number(line, 1) as usize;
-    if calls::is_call(line) {
-        return calls::add(list, line);
+    if call_lines::is_call(line) {
+        return Ok(call_lines::add(list, line));
     }
-    match letters::of(line) {
+    let after = match letters::of(line) {
         KEEP => list.keep(front(file, first)),
         LESS => list.less(first),
         ROOM => list.with_room(first),
         BUFFER => list.with_buffer(first, low(number(line, 2))),
         report::LIST | report::BYTES => list,
-        _ => wrong_line(list, line),
-    }
+        _ => wrong_line(rt, list, line)?,
+    };
+    Ok(after)
 }
 
-fn command(list: List, line: &[u8], file: &mut File) -> List {
+fn command(rt: &impl Print, list: List, line: &[u8], file: &mut File) -> io::Result<List> {
     if letters::is_comment(line) {
-        return list;
+        return Ok(list);
     }
     if edits::edit(line, file) {
-        return list;
+        return Ok(list);
     }
-    add(list, line, file)
+    add(rt, list, line, file)
 }
 
 // Makes the calls, which are lent so many of the numbers for what they tell, and so many bytes of
@@ -72,7 +76,7 @@ fn make_calls(
 }
 
 // Makes a list, and prints of its lines what came of them.
-fn make(list: List, lines: &[u8]) {
+fn make(rt: &impl Print, list: List, lines: &[u8]) -> io::Result<()> {
     let files = list.files;
     let words = list.words;
     let filled = list.filled;
@@ -89,18 +93,20 @@ fn make(list: List, lines: &[u8]) {
         list.length,
     );
     report::print(
+        rt,
         lines,
         numbers_to(&told, list.room),
         part(&buffer, 0, list.length),
-    );
-    fill(b"calls made %\n", &[made as u64]);
+    )?;
+    fill(rt, b"calls made %\n", &[made as u64])?;
     if !list.fits {
-        say(b"the list has more than there is room for\n");
+        say(rt, b"the list has more than there is room for\n")?;
     }
+    Ok(())
 }
 
 // Each list goes to its line `make`, and the next starts behind it.
-fn lists(text: &[u8]) {
+fn lists(rt: &impl Print, text: &[u8]) -> io::Result<()> {
     let mut file: File = [0; 3072];
     let mut list = list::new();
     let mut first: usize = 0;
@@ -110,25 +116,25 @@ fn lists(text: &[u8]) {
         if text[i] == b'\n' {
             let line = part(text, start, i);
             if letters::of(line) == MAKE {
-                make(list, part(text, first, start));
+                make(rt, list, part(text, first, start))?;
                 list = list::new();
                 first = i + 1;
             } else {
-                list = command(list, line, &mut file);
+                list = command(rt, list, line, &mut file)?;
             }
             start = i + 1;
         }
         i += 1;
     }
+    Ok(())
 }
 
 // Standard input has room for fewer than 65,536 bytes.
-fn main() {
+fn main(rt: HostRuntime) -> io::Result<()> {
     let mut text = [0u8; 65536];
-    let length = io::read_full(0, &mut text);
+    let length = input::read(&rt, &mut text)?;
     if length == 65536 {
-        say(b"standard input is too long\n");
-        return;
+        return say(&rt, b"standard input is too long\n");
     }
-    lists(part(&text, 0, length));
+    lists(&rt, part(&text, 0, length))
 }
