@@ -9,7 +9,7 @@ use test_samples::arguments::first_inputs;
 use test_samples::files::byte;
 use test_text::text::part;
 
-#[derive(Drop)]
+#[derive(Clone, Copy)]
 struct Two {
     pair: Pair,
     original: Runner,

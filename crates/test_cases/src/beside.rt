@@ -9,7 +9,7 @@ use test_samples::arguments::{Arguments, first_inputs};
 use test_samples::files::byte;
 
 // The chart as it was and as it is rewritten, and whether it is the same.
-#[derive(Drop)]
+#[derive(Clone, Copy)]
 struct Charts {
     old: Runner,
     new: Runner,

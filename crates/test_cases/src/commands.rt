@@ -3,6 +3,7 @@
 use crate::pair;
 use crate::pair::Pair;
 use encoding::kinds;
+use std::io;
 use test_samples::arguments::first_inputs;
 use test_samples::files;
 use test_samples::files::{File, front, low};
@@ -33,31 +34,31 @@ fn begin(pair: Pair, line: &[u8]) -> Pair {
     )
 }
 
-fn expect(pair: Pair, line: &[u8]) -> Pair {
+fn expect(rt: &impl Print, pair: Pair, line: &[u8]) -> io::Result<Pair> {
     let told = encoding::make(number(line, 1), number(line, 2) as u64, number(line, 3));
-    pair.expect(piece(line, 1, b'"'), told)
+    pair.expect(rt, piece(line, 1, b'"'), told)
 }
 
 // A line that is no command, or says what is not so, counts as a difference.
-fn wrong_line(pair: Pair, line: &[u8]) -> Pair {
+fn wrong_line(rt: &impl Print, pair: Pair, line: &[u8]) -> io::Result<Pair> {
     let none = encoding::make(kinds::DONE, 0, 0);
-    pair.differ(line, none, none)
+    pair.differ_at_once(rt, line, none, none)
 }
 
 // The ten bytes of a place of the file are those of the line.
-fn holds(pair: Pair, line: &[u8], file: &File) -> Pair {
+fn holds(rt: &impl Print, pair: Pair, line: &[u8], file: &File) -> io::Result<Pair> {
     let start = files::place(number(line, 1));
     let bytes = edits::box_bytes(line);
     if check::same(part(file, start, start + 10), &bytes) {
-        return pair;
+        return Ok(pair);
     }
-    wrong_line(pair, line)
+    wrong_line(rt, pair, line)
 }
 
-fn call(pair: Pair, line: &[u8], file: &File) -> Pair {
+fn call(rt: &impl Print, pair: Pair, line: &[u8], file: &File) -> io::Result<Pair> {
     let first = number(line, 1);
     let second = number(line, 2);
-    match letters::of(line) {
+    let after = match letters::of(line) {
         letters::LOAD => pair.load(front(file, first as usize)),
         letters::BEGIN => begin(pair, line),
         letters::ADVANCE => pair.advance(first),
@@ -67,37 +68,39 @@ fn call(pair: Pair, line: &[u8], file: &File) -> Pair {
         letters::SHOW => pair.show(front(file, first as usize), second),
         letters::CONVERT => pair.convert(front(file, first as usize), 7, second as usize, 9),
         letters::REWRITE => pair.rewrite(),
-        HOLDS => holds(pair, line, file),
+        HOLDS => holds(rt, pair, line, file)?,
         NEW => pair.renew(),
-        EXPECT => expect(pair, line),
-        _ => wrong_line(pair, line),
-    }
+        EXPECT => expect(rt, pair, line)?,
+        _ => wrong_line(rt, pair, line)?,
+    };
+    Ok(after)
 }
 
 // Up to the first difference; comments are left out.
-fn command(pair: Pair, line: &[u8], file: &mut File) -> Pair {
+fn command(rt: &impl Print, pair: Pair, line: &[u8], file: &mut File) -> io::Result<Pair> {
     if !pair.same | letters::is_comment(line) {
-        return pair;
+        return Ok(pair);
     }
     if edits::edit(line, file) {
-        return pair;
+        return Ok(pair);
     }
     if letters::of(line) == TAKE {
-        return pair.take(file);
+        return Ok(pair.take(file));
     }
-    call(pair, line, file)
+    call(rt, pair, line, file)
 }
 
-pub fn run(text: &[u8], file: &mut File) -> bool {
+pub fn run(rt: &impl Print, text: &[u8], file: &mut File) -> io::Result<bool> {
     let mut p = pair::new();
     let mut start: usize = 0;
     let mut i: usize = 0;
     while i < text.len() {
         if text[i] == b'\n' {
-            p = command(p, part(text, start, i), file);
+            p = command(rt, p, part(text, start, i), file)?;
             start = i + 1;
         }
         i += 1;
     }
-    p.same
+    p.tell(rt)?;
+    Ok(p.same)
 }

@@ -3,7 +3,7 @@ use encoding::Encoded;
 use runner::Runner;
 use test_samples::arguments::Arguments;
 
-#[derive(Drop)]
+#[derive(Clone, Copy)]
 pub struct Made {
     pub runner: Runner,
     pub told: Encoded,

@@ -2,6 +2,8 @@
 // and random lists of calls, on the runner and on the second interpreter; and charts beside their
 // converted ones and beside their rewritten ones, on two runners. It stops at the first difference,
 // and else says what was reached. Its functions have no equations: what it prints is compared.
+#![tactic(auto)]
+
 mod alike;
 mod beside;
 mod commands;
@@ -13,9 +15,12 @@ mod random_calls;
 mod report;
 
 use pair::Pair;
+use std::io;
 use test_samples::damage;
 use test_samples::files::{File, front};
 use test_samples::random::{below, one_in};
+use test_text::input;
+use test_text::print::say;
 use test_text::text::part;
 
 // Where the random numbers start.
@@ -55,25 +60,27 @@ fn random_cases(file: &mut File) -> Pair {
 }
 
 // The cases of standard input, which has room for fewer than 65,536 bytes.
-fn fixed_cases(file: &mut File) -> bool {
+fn fixed_cases(rt: &(impl Input + Print), file: &mut File) -> io::Result<bool> {
     let mut text = [0u8; 65536];
-    let length = io::read_full(0, &mut text);
+    let length = input::read(rt, &mut text)?;
     if length == 65536 {
-        io::write_all(1, b"standard input is too long\n");
-        return false;
+        say(rt, b"standard input is too long\n")?;
+        return Ok(false);
     }
-    commands::run(part(&text, 0, length), file)
+    commands::run(rt, part(&text, 0, length), file)
 }
 
-fn main() {
+fn main(rt: HostRuntime) -> io::Result<()> {
     let mut file: File = [0; 3072];
-    if !fixed_cases(&mut file) {
-        return;
+    if !fixed_cases(&rt, &mut file)? {
+        return Ok(());
     }
     let p = random_cases(&mut file);
+    p.tell(&rt)?;
     if p.same {
         let counts = p.counts;
-        report::totals(&counts);
-        io::write_all(1, b"no difference\n");
+        report::totals(&rt, &counts)?;
+        say(&rt, b"no difference\n")?;
     }
+    Ok(())
 }

@@ -3,17 +3,28 @@
 use crate::{compare, counts, made, report};
 use encoding::{Encoded, kinds};
 use runner::Runner;
+use std::io;
 use test_samples::files::{File, byte};
 use test_samples::{arguments, files};
 use test_second::{Model, Outcome};
 use test_text::text::part;
 
+// A difference: what differs, the case and the call, and what the two told.
+#[derive(Clone, Copy)]
+struct Difference {
+    what: &'static [u8],
+    case: u32,
+    call: u32,
+    first: Encoded,
+    second: Encoded,
+}
+
 // `told` is what the last call told, and `whole` the answer of a copy of the model that was
 // advanced at once by the whole limit of the last run. `inputs` and `boxes` are those of the chart
 // held, `mode` and `limit` those of the last run. `same` becomes false at the first difference;
 // `case` and `calls` say where that is. `exchanged` says that the case's file is a chart's with two
-// blocks exchanged.
-#[derive(Drop)]
+// blocks exchanged. `difference` is the first one, where it is to be told.
+#[derive(Clone, Copy)]
 pub struct Pair {
     runner: Runner,
     model: Model,
@@ -27,6 +38,7 @@ pub struct Pair {
     calls: u32,
     exchanged: bool,
     pub same: bool,
+    difference: Option<Difference>,
     pub counts: [u64; 72],
 }
 
@@ -45,6 +57,7 @@ pub fn new() -> Pair {
         calls: 0,
         exchanged: false,
         same: true,
+        difference: None,
         counts: [0; 72],
     }
 }
@@ -124,17 +137,50 @@ impl Pair {
         self
     }
 
-    // A difference, which is told once.
-    pub fn differ(mut self, what: &[u8], first: Encoded, second: Encoded) -> Pair {
+    // A difference, of which the first is kept, to be told.
+    pub fn differ(mut self, what: &'static [u8], first: Encoded, second: Encoded) -> Pair {
         if self.same {
-            report::difference(what, self.case, self.calls, first, second);
+            self.difference = Some(Difference {
+                what,
+                case: self.case,
+                call: self.calls,
+                first,
+                second,
+            });
         }
         self.same = false;
         self
     }
 
+    // A difference that is told at once.
+    pub fn differ_at_once(
+        mut self,
+        rt: &impl Print,
+        what: &[u8],
+        first: Encoded,
+        second: Encoded,
+    ) -> io::Result<Pair> {
+        report::difference(rt, what, self.case, self.calls, first, second)?;
+        self.same = false;
+        Ok(self)
+    }
+
+    // Tells the difference that was kept, if there is one.
+    pub fn tell(self, rt: &impl Print) -> io::Result<()> {
+        match self.difference {
+            Some(d) => report::difference(rt, d.what, d.case, d.call, d.first, d.second),
+            None => Ok(()),
+        }
+    }
+
     // What both told is compared, kept and counted; of a call that is just done, at `done`.
-    fn settle(mut self, what: &[u8], first: Encoded, model: test_second::Told, done: u32) -> Pair {
+    fn settle(
+        mut self,
+        what: &'static [u8],
+        first: Encoded,
+        model: test_second::Told,
+        done: u32,
+    ) -> Pair {
         let second = compare::of_model(model);
         self.told = first;
         self.calls = std::num::wrapping_add_u32(self.calls, 1);
@@ -145,7 +191,14 @@ impl Pair {
     }
 
     // The same of a call that changes both.
-    fn turn(mut self, what: &[u8], next: Runner, first: Encoded, turn: Outcome, done: u32) -> Pair {
+    fn turn(
+        mut self,
+        what: &'static [u8],
+        next: Runner,
+        first: Encoded,
+        turn: Outcome,
+        done: u32,
+    ) -> Pair {
         let model = turn.model;
         self.runner = next;
         self.model = model;
@@ -395,14 +448,14 @@ impl Pair {
     }
 
     // Both told what a fixed case says, whose line is printed.
-    pub fn expect(mut self, name: &[u8], expected: Encoded) -> Pair {
+    pub fn expect(mut self, rt: &impl Print, name: &[u8], expected: Encoded) -> io::Result<Pair> {
         let told = self.told;
         if compare::same(expected, told) {
-            report::case(name, expected);
-            return self;
+            report::case(rt, name, expected)?;
+            return Ok(self);
         }
-        report::unexpected(name, expected, told);
+        report::unexpected(rt, name, expected, told)?;
         self.same = false;
-        self
+        Ok(self)
     }
 }
