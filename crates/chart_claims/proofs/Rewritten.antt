@@ -88,15 +88,15 @@ replaced_between t b e =
     record {
       decision = s.kind;
       different = eqb-false _ _ s.differ;
-      if_true_lem = copying_says (if_true t b) _ _ a.first refl refl;
-      if_false_lem = copying_says (if_false t b) _ _ a.second (sym a.target) (sym a.next);
+      if_true = copying_says (if_true t b) _ _ a.first refl refl;
+      if_false = copying_says (if_false t b) _ _ a.second (sym a.target) (sym a.next);
     }
 
 between_replaced : (t b : List ℕ) (target next one other : ℕ) → BetweenCopies t b target next one other → is_replaced t b ≡ true
 unfolding is_replaced copy_alike
 between_replaced t b target next one other k =
-    let x = k.if_true_lem in
-    let y = k.if_false_lem in
+    let x = k.if_true in
+    let y = k.if_false in
     rw (
       k.decision,
       ne_eqb _ _ k.different,
@@ -119,7 +119,7 @@ rewritten_exactly t long p l =
     record {
       replaced =
           λ target next one other k. box_replaced t long p l (between_replaced t (box_of t p) target next one other k)
-          ∙ rw (k.if_true_lem.stores, k.if_true_lem.goes, k.if_true_lem.reads, k.if_false_lem.reads);
+          ∙ rw (k.if_true.stores, k.if_true.goes, k.if_true.reads, k.if_false.reads);
       others = λ none. box_kept t long p l (never_true _ (λ e. none _ _ _ _ (replaced_between t (box_of t p) e)));
     }
 

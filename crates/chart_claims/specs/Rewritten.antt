@@ -27,8 +27,8 @@ pub record Copying (b : List ℕ) (target next source : ℕ) : Type 0 where
 pub record BetweenCopies (table b : List ℕ) (target next one other : ℕ) : Type 0 where
   pub decision : at b 0 ≡ 2
   pub different : at b 5 ≢ at b 6
-  pub if_true_lem : Copying (box_of table (at b 5)) target next one
-  pub if_false_lem : Copying (box_of table (at b 6)) target next other
+  pub if_true : Copying (box_of table (at b 5)) target next one
+  pub if_false : Copying (box_of table (at b 6)) target next other
 
 -- "The kind 4 box put there has the decision's comparison, that target and next, and the two
 -- variables copied." It is put there exactly where there is such a decision, "and other boxes

@@ -1,7 +1,7 @@
 -- What box_from gives at byte n of a table, which the code has as i: it decodes the ten bytes from
--- there on (`read`), by the kind that stands there. Of the 204 places box_at decodes the place's ten
--- bytes (`box_here`), and past them it is a halt (`box_past`). By which halves the box of a number
--- is found (`Finds`): by five times the number, or the lesser of it and 204. Assumes nothing.
+-- there on (`read`), by the kind that stands there. Of the 204 places box_at decodes the place's
+-- ten bytes (`box_here`), and past them it is a halt (`box_past`). By which halves the box of a
+-- number is found (`Finds`): by five times the number, or the lesser of it and 204. Assumes nothing.
 use Prim.Native.Nat.{ℕ, ◌+◌, ◌*◌, ◌≤◌, ◌<◌, min}
 use mathlib.Core.Path.{◌≡◌, refl, ap, sym, ◌∙◌}
 use mathlib.Core.List.{List, [], ◌∷◌}

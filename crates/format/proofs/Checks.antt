@@ -10,7 +10,7 @@ use Rattle.format.specs.Search.{first_failing}
 use Rattle.format.specs.File.{blocks_of, blocks_for, header_of, length_rule, check_rule, letters_rule, header_rule, place_rule, check_file}
 use Rattle.format.specs.declared.Checked.TheVariants.{Accepted, Refused}
 
--- The names of checkFile's definition.
+-- The names of check_file's definition.
 module _ (f : List ℕ) where
   abbrev pub blocks : ℕ
   blocks = blocks_of f

@@ -74,8 +74,8 @@ module _ (edition : ℕ) (table : List ℕ) (long : length table ≡ 2040) where
           one = at one 3;
           other = at other 3;
           decision = old_flow ∙ rw r.kind;
-          if_true_lem = copies (at b 5) a.first;
-          if_false_lem = rw (a.target, a.next) (copies (at b 6) a.second);
+          if_true = copies (at b 5) a.first;
+          if_false = rw (a.target, a.next) (copies (at b 6) a.second);
           choice = new_flow (choice_of b one other) (rw e);
         }
 

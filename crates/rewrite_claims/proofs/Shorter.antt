@@ -43,8 +43,8 @@ pub record Chooses (f f' : ℕ → Box) (p : ℕ) : Type 0 where
   pub one : ℕ
   pub other : ℕ
   pub decision : f p ≡ decides (left ∷ right ∷ []) (compares comparison) true_next false_next
-  pub if_true_lem : Copies target one next (f true_next)
-  pub if_false_lem : Copies target other next (f false_next)
+  pub if_true : Copies target one next (f true_next)
+  pub if_false : Copies target other next (f false_next)
   pub choice : f' p ≡ assigns target (left ∷ right ∷ one ∷ other ∷ []) (chosen comparison) next
 
 -- What becomes of the box of number p, by whether a choice is put in there.
@@ -71,8 +71,8 @@ entry_of_either false vars one other = refl
 
 next_copies : {f f' : ℕ → Box} {p : ℕ} (c : Chooses f f' p) (b : Bool)
     → Copies c.target (cond b c.one c.other) c.next (f (cond b c.true_next c.false_next))
-next_copies c true = c.if_true_lem
-next_copies c false = c.if_false_lem
+next_copies c true = c.if_true
+next_copies c false = c.if_false
 
 module _ {f f' : ℕ → Box} (q : Run) (is-bare : q.mode ≡ bare) (c : Chooses f f' q.at) where
   -- Whether the comparison holds.

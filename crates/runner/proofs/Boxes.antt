@@ -95,8 +95,8 @@ stays_sixteen s mode masks b a small en ea t v m next d =
     (ap (λ (n : Masks). act_by (set_by n) mode b s.vars s.marks s.counter) (sym en) ∙ sym ea ∙ d)
     (stores_sixteen mode b s.vars s.marks s.counter))
 
--- What the type of a runner says of its limit, its steps and its marks: what owning the runner tells
--- has a part for each field, and of an array a part for each element.
+-- What the type of a runner says of its limit, its steps and its marks: what owning the runner
+-- tells has a part for each field, and of an array a part for each element.
 each_sixteen : (xs : List ℕ) (us : List Val) → shadow (each u16.Denot u16.own_val xs us) → SixteenInputs xs
 each_sixteen [] us p v = omega arith
 each_sixteen (x ∷ xs) [] p v = absurd p

@@ -9,10 +9,12 @@ use test_samples::{arguments, files};
 use test_second::{Model, Outcome};
 use test_text::text::part;
 
-// A difference: what differs, the case and the call, and what the two told.
+// A difference: what differs, of which so many bytes are kept, the case and the call, and what the
+// two told.
 #[derive(Clone, Copy)]
 struct Difference {
-    what: &'static [u8],
+    what: [u8; 32],
+    length: usize,
     case: u32,
     call: u32,
     first: Encoded,
@@ -40,6 +42,20 @@ pub struct Pair {
     pub same: bool,
     difference: Option<Difference>,
     pub counts: [u64; 72],
+}
+
+// How many bytes are kept of a text: all, but 32 at most.
+fn length_of(text: &[u8]) -> usize {
+    if text.len() < 32 { text.len() } else { 32 }
+}
+
+// The first 32 bytes of a text, and zeros where there are fewer.
+fn front_of(text: &[u8]) -> [u8; 32] {
+    let mut front = [0u8; 32];
+    for i in 0..32 {
+        front[i] = files::low(byte(text, i));
+    }
+    front
 }
 
 pub fn new() -> Pair {
@@ -138,10 +154,11 @@ impl Pair {
     }
 
     // A difference, of which the first is kept, to be told.
-    pub fn differ(mut self, what: &'static [u8], first: Encoded, second: Encoded) -> Pair {
+    pub fn differ(mut self, what: &[u8], first: Encoded, second: Encoded) -> Pair {
         if self.same {
             self.difference = Some(Difference {
-                what,
+                what: front_of(what),
+                length: length_of(what),
                 case: self.case,
                 call: self.calls,
                 first,
@@ -168,19 +185,20 @@ impl Pair {
     // Tells the difference that was kept, if there is one.
     pub fn tell(self, rt: &impl Print) -> io::Result<()> {
         match self.difference {
-            Some(d) => report::difference(rt, d.what, d.case, d.call, d.first, d.second),
+            Some(d) => report::difference(
+                rt,
+                part(&d.what, 0, d.length),
+                d.case,
+                d.call,
+                d.first,
+                d.second,
+            ),
             None => Ok(()),
         }
     }
 
     // What both told is compared, kept and counted; of a call that is just done, at `done`.
-    fn settle(
-        mut self,
-        what: &'static [u8],
-        first: Encoded,
-        model: test_second::Told,
-        done: u32,
-    ) -> Pair {
+    fn settle(mut self, what: &[u8], first: Encoded, model: test_second::Told, done: u32) -> Pair {
         let second = compare::of_model(model);
         self.told = first;
         self.calls = std::num::wrapping_add_u32(self.calls, 1);
@@ -191,14 +209,7 @@ impl Pair {
     }
 
     // The same of a call that changes both.
-    fn turn(
-        mut self,
-        what: &'static [u8],
-        next: Runner,
-        first: Encoded,
-        turn: Outcome,
-        done: u32,
-    ) -> Pair {
+    fn turn(mut self, what: &[u8], next: Runner, first: Encoded, turn: Outcome, done: u32) -> Pair {
         let model = turn.model;
         self.runner = next;
         self.model = model;

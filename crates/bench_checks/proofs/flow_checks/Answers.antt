@@ -1,4 +1,4 @@
--- `flow_checks` counts its rounds down; the inputs keep their number, and that is at most 32.
+-- Begin takes as many of the 32 numbers as there were inputs.
 use Rattle.std.proofs.Common.{sym, length-set, length-take-le, rules}
 use Rattle.bench_checks.proofs.flow_checks.Goals as goal
 

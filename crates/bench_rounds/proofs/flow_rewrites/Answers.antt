@@ -1,4 +1,4 @@
--- `flow_rewrites` counts its rounds up.
+-- The first file is a half of the lent bytes.
 use Rattle.std.proofs.Common.{sym, length-take-le, rules}
 use Rattle.bench_rounds.proofs.flow_rewrites.Goals as goal
 

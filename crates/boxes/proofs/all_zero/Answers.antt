@@ -1,5 +1,4 @@
--- `all_zero` goes up the bytes: those before i are all 0 and so are those from i on, exactly where
--- all bytes are.
+-- Each turn looks at one byte more (`zeros_more`), and at the end none is left (`zeros_end`).
 use mathlib.Core.Path.{refl}
 use borrow.Author.Rules.{rules}
 use Rattle.boxes.proofs.Zeros.{zeros_more, zeros_end}

@@ -1,5 +1,5 @@
--- Each box does what was computed of it; where the loop is left, no box is left, or a halt has given
--- a value, or a decision or a halt a notice.
+-- Each box does what was computed of it; where the loop is left, no box is left, or a halt has
+-- given a value, or a decision or a halt a notice.
 use Prim.Native.Nat.{◌+◌, ◌-◌, ◌%◌}
 use mathlib.Core.Path.{refl, ap, ◌∙◌}
 use native.Mathlib.Omega.{arith}

@@ -1,7 +1,7 @@
 -- The loop's invariant: of the boxes asked for n are to go, of those allotted `left`, after so many
 -- steps, and where none is left the run has come to what all come to; the runner differs from the
--- one at the start in what boxes store alone, no ending is met, the masks are those of the mode, the
--- box at hand is found by `half`, and the marks are of 16 inputs.
+-- one at the start in what boxes store alone, no ending is met, the masks are those of the mode,
+-- the box at hand is found by `half`, and the marks are of 16 inputs.
 use Prim.Native.Nat.{ℕ, ◌+◌, ◌≤◌}
 use mathlib.Core.Path.{◌≡◌}
 use Rattle.marks.specs.Marks.{mode_of, mode_in, masks_of}
