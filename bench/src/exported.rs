@@ -1,5 +1,5 @@
-//! The proved library's functions, as `crates/bench_checks`, `crates/bench_rounds` and
-//! `crates/test_script` export them.
+//! The proved library's functions, as `crates/bench_checks_c`, `crates/bench_rounds_c` and
+//! `crates/test_script_c` export them.
 #[allow(improper_ctypes)]
 extern "C" {
     fn flow_checks(file: &[u8], mode: u32, inputs: &[u32], allowed: u32, limit: u32, rounds: u32) -> u64;
