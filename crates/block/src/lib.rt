@@ -5,13 +5,37 @@
 ghost use Rattle.std.specs.Prelude.{◌≡◌, slice_set};
 ghost use Rattle.boxes.specs.Bytes.{at};
 ghost use Rattle.block.specs.Block.{checksum, is_sealed, with_seal};
-ghost use Rattle.block.specs.Refusing.{refusal};
+ghost use Rattle.block.specs.Refusing.{refusal, refusal_for};
 
 // A refusal, by document 01's number and detail.
-#[derive(Clone, Copy)]
+#[derive(Clone, Copy, Debug, PartialEq, Eq)]
 pub struct Refusal {
     pub number: u32,
     pub detail: u32,
+}
+
+// Why a call is refused, with the block or the place that the detail tells: a name for each of
+// document 01's numbers, but 11, which is the run program's.
+#[derive(Clone, Copy, Debug, PartialEq, Eq)]
+pub enum Reason {
+    Length,
+    Check(u32),
+    Letters,
+    Header,
+    Blocks,
+    Place(u32),
+    Mode,
+    Allowed,
+    Inputs,
+    Limit,
+    Room,
+    Amount,
+    Untaken(u32),
+    Edition,
+    NoChart,
+    UnderWay,
+    NoRun,
+    NoEnding,
 }
 
 impl Refusal {
@@ -19,6 +43,33 @@ impl Refusal {
         ensures { result ≡ refusal number detail }
     {
         Refusal { number, detail }
+    }
+}
+
+impl From<Reason> for Refusal {
+    ghost from_gives = { λ reason refused. refused ≡ refusal_for reason };
+
+    fn from(reason: Reason) -> Refusal {
+        match reason {
+            Reason::Length => Refusal::new(1, 0),
+            Reason::Check(block) => Refusal::new(2, block),
+            Reason::Letters => Refusal::new(3, 0),
+            Reason::Header => Refusal::new(4, 0),
+            Reason::Blocks => Refusal::new(5, 0),
+            Reason::Place(place) => Refusal::new(6, place),
+            Reason::Mode => Refusal::new(7, 0),
+            Reason::Allowed => Refusal::new(8, 0),
+            Reason::Inputs => Refusal::new(9, 0),
+            Reason::Limit => Refusal::new(10, 0),
+            Reason::Room => Refusal::new(12, 0),
+            Reason::Amount => Refusal::new(13, 0),
+            Reason::Untaken(place) => Refusal::new(14, place),
+            Reason::Edition => Refusal::new(15, 0),
+            Reason::NoChart => Refusal::new(21, 0),
+            Reason::UnderWay => Refusal::new(22, 0),
+            Reason::NoRun => Refusal::new(23, 0),
+            Reason::NoEnding => Refusal::new(24, 0),
+        }
     }
 }
 

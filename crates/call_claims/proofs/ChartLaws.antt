@@ -1,5 +1,6 @@
 -- The claims about held charts and the round trip, from what holds of every reachable runner.
 -- Assumes nothing.
+use Rattle.std.specs.Prelude.{Ok, Err}
 use Prim.Native.Nat.{ℕ, ◌≤◌}
 use mathlib.Core.Path.{◌≡◌, refl, ap, sym, ◌∙◌}
 use mathlib.Core.List.{List, [], ◌∷◌, ◌++◌}
@@ -9,7 +10,6 @@ use lib.ListN.{length, take, drop}
 use lib.Seq.{take_at}
 use Rattle.format.specs.File.{header_of, check_file}
 use Rattle.format.specs.declared.Header.{Header}
-use Rattle.format.specs.declared.Checked.TheVariants as checked
 use Rattle.format.proofs.Passes.{passes}
 use Rattle.chart.specs.Chart.{table_of, Chart, chart_of, file_of}
 use Rattle.chart.specs.WriteBack.{file_length}
@@ -17,8 +17,7 @@ use Rattle.chart_claims.proofs.RoundTrip.{file_again}
 use Rattle.chart_claims.proofs.Rules.{obeys_rules, stays_in_range}
 use Rattle.machine.specs.Run.{Progress, going, over}
 use Rattle.calls.specs.Calls.{Call, load, write_back, file_verdict, check}
-use Rattle.calls.specs.declared.Verdict.{Verdict}
-use Rattle.calls.specs.declared.Verdict.TheVariants.{Done, Refused}
+use Rattle.calls.specs.Calls.{Verdict}
 use Rattle.calls.proofs.Permits.{write_back_fits}
 use Rattle.runner.specs.declared.Runner.{Runner}
 use Rattle.runner.specs.State.{chart_in, is_running, standing_of, idle, ended_with, dropped, ran, resumed}
@@ -32,7 +31,7 @@ use Rattle.call_claims.proofs.Reachable.{sound, accepted_file}
 use Rattle.call_claims.proofs.OneChart.{room_accepts, write_does, own_file, own_length}
 
 -- A chart out of a file obeys the rules.
-from_obeys : (h : Header) (table file : List ℕ) → check_file file ≡ checked.Accepted h → table ≡ table_of file → Obeys h table
+from_obeys : (h : Header) (table file : List ℕ) → check_file file ≡ Ok h → table ≡ table_of file → Obeys h table
 from_obeys h table file e t =
     let o = obeys_rules file h e in
     let s = stays_in_range file h e in
@@ -71,7 +70,7 @@ after_kept drops r n = refl
 after_kept (replaces by) r n = absurd n
 
 -- What is asked of a call that would be refused is asked of no other.
-if_accepted : (x : Effect) {Refused : Type 0} → (Refused → ⊥) → KeepsChart x Refused → KeepsChart x ⊥
+if_accepted : (x : Effect) {Err : Type 0} → (Err → ⊥) → KeepsChart x Err → KeepsChart x ⊥
 if_accepted (runs m) f n = tt
 if_accepted keeps f n = tt
 if_accepted (begins mode start) f n = tt
@@ -83,8 +82,8 @@ unfolding call outcome_by
 next_kept c r n = on (check c (standing_of r)) refl
   where
     on : (v : Verdict) → check c (standing_of r) ≡ v → chart_in (outcome_by v c r).next ≡ chart_in r
-    on Done e = after_kept (effect c) r (if_accepted (effect c) (λ no. no e) n)
-    on (Refused x) e = refl
+    on (Ok _) e = after_kept (effect c) r (if_accepted (effect c) (λ no. no e) n)
+    on (Err x) e = refl
 
 final_kept : (cs : List Call) (r : Runner) → AllKeepChart cs r → chart_in (final cs r) ≡ chart_in r
 unfolding final
@@ -97,7 +96,7 @@ unfolding outcome_by says after
 load_does file r e = call_done (load file) r e
 
 -- What a runner with the chart of a file writes back.
-writes_file : (q : Runner) (file buffer : List ℕ) → check_file file ≡ checked.Accepted q.header → q.table ≡ table_of file → length file ≤ length buffer
+writes_file : (q : Runner) (file buffer : List ℕ) → check_file file ≡ Ok q.header → q.table ≡ table_of file → length file ≤ length buffer
     → (call (write_back buffer) q).told ≡ record { reply = wrote (length file); buffer = file ++ drop (length file) buffer }
 writes_file q file buffer e t room =
     let a = passes file q.header e in
@@ -112,10 +111,10 @@ loaded_is_written r file buffer cs a n room =
     let last = final cs (call (load file) r).next in
     let held : chart_in last ≡ chart_of file = final_kept cs (call (load file) r).next n ∙ ap (λ (o : Outcome). chart_in o.next) (load_does file r a) in
     let header : last.header ≡ header_of file = ap (λ (c : Chart). c.header) held in
-    writes_file last file buffer (e ∙ ap checked.Accepted (sym header)) (ap (λ (c : Chart). c.table) held) room
+    writes_file last file buffer (e ∙ ap Ok (sym header)) (ap (λ (c : Chart). c.table) held) room
 
 -- A file that is accepted loads into any runner that has no run under way.
-pub loads_file : (q : Runner) (file : List ℕ) → check_file file ≡ checked.Accepted (header_of file) → is_running q ≡ false → Accepted (load file) q
+pub loads_file : (q : Runner) (file : List ℕ) → check_file file ≡ Ok (header_of file) → is_running q ≡ false → Accepted (load file) q
 unfolding check file_verdict
 loads_file q file e n = rw (n, e)
 
@@ -123,9 +122,9 @@ wrote_accepted : (r : Runner) (buffer : List ℕ) (bytes : ℕ) → (call (write
 unfolding call outcome_by
 wrote_accepted r buffer bytes e = on (check (write_back buffer) (standing_of r)) refl e
   where
-    on : (v : Verdict) → check (write_back buffer) (standing_of r) ≡ v → (outcome_by v (write_back buffer) r).told.reply ≡ wrote bytes → v ≡ Done
-    on Done q z = refl
-    on (Refused x) q z = clash cc
+    on : (v : Verdict) → check (write_back buffer) (standing_of r) ≡ v → (outcome_by v (write_back buffer) r).told.reply ≡ wrote bytes → v ≡ Ok tt
+    on (Ok _) q z = refl
+    on (Err x) q z = clash cc
 
 pub written_is_loaded : WrittenIsLoaded
 unfolding dropped
@@ -141,7 +140,7 @@ written_is_loaded r r' buffer bytes g told n =
     ∙ take_at (file_of r.header r.table) rest bytes (own_length f ∙ size)
     ∙ own_file f in
     let header : r.header ≡ header_of f.file = (passes f.file r.header f.checks).header in
-    let loads = loads_file r' f.file (f.checks ∙ ap checked.Accepted header) n in
+    let loads = loads_file r' f.file (f.checks ∙ ap Ok header) n in
     let loaded : chart_of f.file ≡ chart_in r = (let table = f.loads in cc) in
     ap (λ (x : List ℕ). call (load x) r') file
     ∙ load_does f.file r' loads

@@ -1,6 +1,7 @@
 -- Lists of advances, answers, write backs and refused calls only run boxes: as many as the advances
 -- ask for, or fewer where the run ends or, with counts hidden, an advance is refused. And what each
 -- of their calls replies. Assumes nothing.
+use Rattle.std.specs.Prelude.{Ok, Err}
 use Prim.Native.Nat.{ℕ, ◌+◌, ◌≤◌, ◌<◌}
 use mathlib.Core.Path.{◌≡◌, refl, ap, sym, ◌∙◌, subst}
 use mathlib.Core.List.Memᴰ
@@ -17,8 +18,7 @@ use Rattle.runs.specs.Whole.{disclosed}
 use Rattle.machine.proofs.Runs.{run_add, over_twice, AsBegun, run_as_begun}
 use Rattle.runs.proofs.Disclosed.{disclosed_by}
 use Rattle.calls.specs.Calls.{Call, load, begin, advance, answer, abandon, write_back, rewrite, refuse_if, check}
-use Rattle.calls.specs.declared.Verdict.{Verdict}
-use Rattle.calls.specs.declared.Verdict.TheVariants.{Done, Refused}
+use Rattle.calls.specs.Calls.{Verdict}
 use Rattle.calls.proofs.Permits.{not_done, passed, advance_enough}
 use Rattle.runner.specs.declared.Runner.{Runner}
 use Rattle.runner.specs.State.{is_running, is_ended, least_in, standing_of, ending_in, run_in, ended_with, flow_in, ran, resumed}
@@ -149,7 +149,7 @@ module _ (r : Runner) (on : r.state ≡ 1) where
   unfolding resumed
   going_mode q = refl
 
-  advanced_going : (m n : ℕ) (q : Run) → ran n r ≡ going q → outcome_by Done (advance m) (resumed (going q) r) ≡ advanced (ran (n + m) r)
+  advanced_going : (m n : ℕ) (q : Run) → ran n r ≡ going q → outcome_by (Ok tt) (advance m) (resumed (going q) r) ≡ advanced (ran (n + m) r)
   unfolding outcome_by says after
   advanced_going m n q e =
       ap (λ (k : ℕ). record { told = record { reply = progress_reply (mode_of k) (ran m (resumed (going q) r)); buffer = [] }; next = resumed (ran m (resumed (going q) r)) (resumed (going q) r) })
@@ -166,11 +166,11 @@ module _ (r : Runner) (on : r.state ≡ 1) where
 
   -- While the run goes on, an advance is refused where it asks for too little, and else accepted.
   advance_checked : (m n : ℕ) → is_running (resumed (ran n r) r) ≡ true
-      → check (advance m) (standing_of (resumed (ran n r) r)) ≡ refuse_if (ltb m (least_in r)) 13 Done
+      → check (advance m) (standing_of (resumed (ran n r) r)) ≡ refuse_if (ltb m (least_in r)) 13 (Ok tt)
   unfolding check
   advance_checked m n on = by (ran n r) refl on
     where
-      by : (p : Progress) → ran n r ≡ p → is_running (resumed p r) ≡ true → check (advance m) (standing_of (resumed p r)) ≡ refuse_if (ltb m (least_in r)) 13 Done
+      by : (p : Progress) → ran n r ≡ p → is_running (resumed p r) ≡ true → check (advance m) (standing_of (resumed p r)) ≡ refuse_if (ltb m (least_in r)) 13 (Ok tt)
       by (going q) e k = rw (k, least_stays n q e)
       by (over f s) e k = absurd (false≢true (sym (over_rests f s) ∙ k))
 
@@ -196,9 +196,9 @@ module _ (r : Runner) (on : r.state ≡ 1) where
   advance_next : (m n : ℕ) (v : Verdict) → check (advance m) (standing_of (resumed (ran n r) r)) ≡ v
       → Ran (n + m) (outcome_by v (advance m) (resumed (ran n r) r)).next
   unfolding outcome_by
-  advance_next m n Done e =
+  advance_next m n (Ok _) e =
       record { boxes = n + m; all = λ h. refl; is = ap (λ (o : Outcome). o.next) (sym (call_done (advance m) _ e) ∙ advance_does m n e) }
-  advance_next m n (Refused x) e = by (ran n r) refl
+  advance_next m n (Err x) e = by (ran n r) refl
     where
       stays : (q : Run) → ran n r ≡ going q → hides mode ≡ false → n ≡ n + m
       stays q d h =
@@ -225,14 +225,14 @@ module _ (r : Runner) (on : r.state ≡ 1) where
           let is = runs_only c m e in
           subst (λ (k : Call). Ran (n + m) (outcome_by v k (resumed (ran n r) r)).next) (sym is)
           (advance_next m n v (subst (λ (k : Call). check k (standing_of (resumed (ran n r) r)) ≡ v) is d))
-      by keeps e u Done d = subst (λ (x : Effect). Ran (n + 0) (after x (resumed (ran n r) r))) (sym e) here
-      by keeps e u (Refused x) d = here
-      by (begins k start) e u Done d = absurd (u d)
-      by (begins k start) e u (Refused x) d = here
-      by drops e u Done d = absurd (u d)
-      by drops e u (Refused x) d = here
-      by (replaces f) e u Done d = absurd (u d)
-      by (replaces f) e u (Refused x) d = here
+      by keeps e u (Ok _) d = subst (λ (x : Effect). Ran (n + 0) (after x (resumed (ran n r) r))) (sym e) here
+      by keeps e u (Err x) d = here
+      by (begins k start) e u (Ok _) d = absurd (u d)
+      by (begins k start) e u (Err x) d = here
+      by drops e u (Ok _) d = absurd (u d)
+      by drops e u (Err x) d = here
+      by (replaces f) e u (Ok _) d = absurd (u d)
+      by (replaces f) e u (Err x) d = here
 
   final_runs : (cs : List Call) (n : ℕ) → AllContinue cs (resumed (ran n r) r) → Ran (n + asked cs) (final cs (resumed (ran n r) r))
   unfolding final asked
@@ -281,8 +281,8 @@ module _ (r : Runner) (on : r.state ≡ 1) where
   told_so c n = by (check c (standing_of (resumed (ran n r) r))) refl
     where
       by : (v : Verdict) → check c (standing_of (resumed (ran n r) r)) ≡ v → Replied (outcome_by v c (resumed (ran n r) r)).told.reply
-      by Done e = said c n e
-      by (Refused x) e = turned
+      by (Ok _) e = said c n e
+      by (Err x) e = turned
 
   all_told : (cs : List Call) (n : ℕ) → AllContinue cs (resumed (ran n r) r) → (t : Told) → Memᴰ t (tells cs (resumed (ran n r) r)) → Replied t.reply
   unfolding tells

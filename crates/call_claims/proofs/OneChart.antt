@@ -1,5 +1,6 @@
 -- Runners that hold one chart have the same header and table: write back gives one file of both,
 -- and what each holds is what that file loads. Assumes nothing.
+use Rattle.std.specs.Prelude.{Ok, Err}
 use Prim.Native.Nat.{ℕ, ◌≤◌}
 use mathlib.Core.Path.{◌≡◌, ap, sym, ◌∙◌}
 use mathlib.Core.List.{List, ◌++◌}
@@ -10,7 +11,6 @@ use lib.Seq.{take-append_seam}
 use borrow.Author.Tests.{le-leb}
 use Rattle.format.specs.File.{check_file}
 use Rattle.format.specs.declared.Header.{Header}
-use Rattle.format.specs.declared.Checked.TheVariants as checked
 use Rattle.format.proofs.Passes.{passes}
 use Rattle.format.proofs.Ranges.{in_range_lem}
 use Rattle.chart.specs.Chart.{table_of, file_of}
@@ -47,7 +47,7 @@ module _ {h : Header} {table : List ℕ} (f : From h table) where
 front_same : (f f' x x' : List ℕ) → length f ≡ length f' → f ++ x ≡ f' ++ x' → f ≡ f'
 front_same f f' x x' l e = sym (take-append_seam f x) ∙ rw (l, e) (take-append_seam f' x')
 
-accepted_once : {h h' : Header} → checked.Accepted h ≡ checked.Accepted h' → h ≡ h'
+accepted_once : {h h' : Header} → Ok h ≡ Ok h' → h ≡ h'
 accepted_once e = cc
 
 from_one : {h h' : Header} {table table' : List ℕ} (f : From h table) (f' : From h' table') → f.file ≡ f'.file → (h ≡ h') × (table ≡ table')

@@ -1,6 +1,7 @@
 -- What holds of every reachable runner: a chart that is held came out of a file, a run under way is
 -- in range, and a runner without one is at rest. A new runner has it, a box keeps it, and so does
 -- every call. Assumes nothing.
+use Rattle.std.specs.Prelude.{Ok, Err}
 use Prim.Native.Nat.{ℕ, ◌≤◌, ◌<◌}
 use mathlib.Core.Path.{◌≡◌, refl, ap, sym, ◌∙◌, subst}
 use mathlib.Core.List.{List}
@@ -13,8 +14,7 @@ use borrow.Author.Tests.{eqb-true}
 use Rattle.boxes.specs.Bytes.{box_of}
 use Rattle.format.specs.File.{header_of, in_range, check_file}
 use Rattle.format.specs.declared.Header.{Header}
-use Rattle.format.specs.declared.Checked.{Checked}
-use Rattle.format.specs.declared.Checked.TheVariants as checked
+use Rattle.format.specs.File.{Checked}
 use Rattle.format.proofs.Passes.{passes}
 use Rattle.format.proofs.Ranges.{in_range_lem}
 use Rattle.chart.specs.Chart.{table_of, Chart, file_of}
@@ -33,8 +33,7 @@ use Rattle.runs.proofs.Disclosed.{disclosed_by}
 use Rattle.begin.specs.Begin.{effective}
 use Rattle.begin.proofs.Begins.{effective_positive, effective_fits, length_vars, length_marks, marks_all}
 use Rattle.calls.specs.Calls.{Call, load, begin, advance, answer, abandon, write_back, rewrite, file_verdict, check}
-use Rattle.calls.specs.declared.Verdict.{Verdict}
-use Rattle.calls.specs.declared.Verdict.TheVariants.{Done, Refused}
+use Rattle.calls.specs.Calls.{Verdict}
 use Rattle.calls.proofs.Permits.{not_done, passed, permitted, advance_enough, rewrites_second}
 use Rattle.runner.specs.declared.Runner.{Runner}
 use Rattle.runner.specs.State.{chart_in, flowchart_in, is_held, is_running, is_ended, standing_of, ending_in, run_in, with_run, under_way, idle, new_runner, ended_with, dropped, flow_in, ran, resumed}
@@ -49,7 +48,7 @@ use Rattle.call_claims.proofs.Decoded.{GoesBelow, assign_below, decide_below, ha
 -- A chart that came out of a file.
 pub record From (h : Header) (table : List ℕ) : Type 0 where
   pub file : List ℕ
-  pub checks : check_file file ≡ checked.Accepted h
+  pub checks : check_file file ≡ Ok h
   pub loads : table ≡ table_of file
 
 pub record Sound (r : Runner) : Type 0 where
@@ -138,15 +137,15 @@ resumed_sound r s f u (going q) x y = running_sound (with_run q r) s f
 resumed_sound r s f u (over e steps) x y = ended_sound e steps r f u.held y
 
 -- An accepted load: the file's header and table.
-pub accepted_file : (file : List ℕ) (r : Runner) → check (load file) (standing_of r) ≡ Done → check_file file ≡ checked.Accepted (header_of file)
+pub accepted_file : (file : List ℕ) (r : Runner) → check (load file) (standing_of r) ≡ Ok tt → check_file file ≡ Ok (header_of file)
 unfolding check file_verdict
 accepted_file file r e = on (check_file file) refl (passed (is_running r) 22 e).1
   where
-    on : (x : Checked) → check_file file ≡ x → file_verdict x ≡ Done → check_file file ≡ checked.Accepted (header_of file)
-    on (checked.Accepted h) q v = q ∙ ap checked.Accepted (passes file h q).header
-    on (checked.Refused x) q v = not_done v
+    on : (x : Checked) → check_file file ≡ x → file_verdict x ≡ Ok tt → check_file file ≡ Ok (header_of file)
+    on (Ok h) q v = q ∙ ap Ok (passes file h q).header
+    on (Err x) q v = not_done v
 
-start_sound : (mode : ℕ) (inputs : List ℕ) (allowed limit : ℕ) (r : Runner) → check (begin mode inputs allowed limit) (standing_of r) ≡ Done → Sound r
+start_sound : (mode : ℕ) (inputs : List ℕ) (allowed limit : ℕ) (r : Runner) → check (begin mode inputs allowed limit) (standing_of r) ≡ Ok tt → Sound r
     → Sound (under_way (chart_in r) mode (start_of (flowchart_in r) (mode_of mode) inputs allowed (effective limit)))
 start_sound mode inputs allowed limit r e h =
     let p = permitted mode inputs allowed limit (standing_of r) e in
@@ -171,7 +170,7 @@ start_sound mode inputs allowed limit r e h =
       forgot = (refl, refl, refl);
     })
 
-advance_sound : (m : ℕ) (r : Runner) → check (advance m) (standing_of r) ≡ Done → Sound r → Sound (resumed (ran m r) r)
+advance_sound : (m : ℕ) (r : Runner) → check (advance m) (standing_of r) ≡ Ok tt → Sound r → Sound (resumed (ran m r) r)
 advance_sound m r e h =
     let on = (advance_enough m (standing_of r) e).0 in
     let u = h.runs on in
@@ -185,7 +184,7 @@ advance_sound m r e h =
     (run_carries (InputsOf r.header) (pow_pos k) (or_lt k) (flow_in r) m (run_in r) u.sets) (λ z. pow_pos k))
 
 -- A rewritten chart obeys the rules, so it has a file that loads to it.
-rewrite_sound : (r : Runner) → check rewrite (standing_of r) ≡ Done → Sound r → Sound (idle (rewritten_chart (chart_in r)))
+rewrite_sound : (r : Runner) → check rewrite (standing_of r) ≡ Ok tt → Sound r → Sound (idle (rewritten_chart (chart_in r)))
 rewrite_sound r e h =
     let allowed = rewrites_second (standing_of r) e in
     let f = h.held allowed.0 in
@@ -195,14 +194,14 @@ rewrite_sound r e h =
 
 outcome_sound : (v : Verdict) (c : Call) (r : Runner) → check c (standing_of r) ≡ v → Sound r → Sound (outcome_by v c r).next
 unfolding outcome_by after dropped
-outcome_sound (Refused x) c r e h = h
-outcome_sound Done (load file) r e h = dropped_sound _ (λ q. record { file = file; checks = accepted_file file r e; loads = refl })
-outcome_sound Done (begin mode inputs allowed limit) r e h = start_sound mode inputs allowed limit r e h
-outcome_sound Done (advance m) r e h = advance_sound m r e h
-outcome_sound Done answer r e h = h
-outcome_sound Done abandon r e h = dropped_sound (chart_in r) h.held
-outcome_sound Done (write_back buffer) r e h = h
-outcome_sound Done rewrite r e h = rewrite_sound r e h
+outcome_sound (Err x) c r e h = h
+outcome_sound (Ok _) (load file) r e h = dropped_sound _ (λ q. record { file = file; checks = accepted_file file r e; loads = refl })
+outcome_sound (Ok _) (begin mode inputs allowed limit) r e h = start_sound mode inputs allowed limit r e h
+outcome_sound (Ok _) (advance m) r e h = advance_sound m r e h
+outcome_sound (Ok _) answer r e h = h
+outcome_sound (Ok _) abandon r e h = dropped_sound (chart_in r) h.held
+outcome_sound (Ok _) (write_back buffer) r e h = h
+outcome_sound (Ok _) rewrite r e h = rewrite_sound r e h
 
 pub sound : {r : Runner} → Reached r → Sound r
 unfolding new_runner call

@@ -1,11 +1,10 @@
 -- No two answers of one enum tell the same: constructors are distinct and injective. Assumes
 -- nothing.
+use Rattle.std.specs.Prelude.{Ok, Err}
 use Prim.Native.Nat.{ℕ}
 use mathlib.Core.Path.{◌≡◌, refl, ap, ◌∙◌}
 use Rattle.block.specs.Refusing.{refusal}
 use Rattle.block.specs.declared.Refusal.{Refusal}
-use Rattle.chart.specs.declared.Written.TheVariants as written
-use Rattle.calls.specs.declared.Verdict.TheVariants as verdict
 use Rattle.runner.specs.declared.LoadTold.TheVariants as load
 use Rattle.runner.specs.declared.AdvanceTold.TheVariants as advance
 use Rattle.runner.specs.declared.AnswerTold.TheVariants as answer
@@ -29,10 +28,10 @@ load_once (load.Refused x) (load.Refused y) e = ap load.Refused (refusal_once x 
 
 verdict_once : Injective verdict_reply
 unfolding verdict_reply
-verdict_once verdict.Done verdict.Done e = refl
-verdict_once verdict.Done (verdict.Refused y) e = clash cc
-verdict_once (verdict.Refused x) verdict.Done e = clash cc
-verdict_once (verdict.Refused x) (verdict.Refused y) e = ap verdict.Refused (refusal_once x y e)
+verdict_once (Ok _) (Ok _) e = refl
+verdict_once (Ok _) (Err y) e = clash cc
+verdict_once (Err x) (Ok _) e = clash cc
+verdict_once (Err x) (Err y) e = ap Err (refusal_once x y e)
 
 advance_once : Injective advance_reply
 unfolding advance_reply
@@ -67,10 +66,10 @@ answer_once (answer.Refused x) (answer.Refused y) e = ap answer.Refused (refusal
 
 written_once : Injective written_reply
 unfolding written_reply
-written_once (written.Length n) (written.Length m) e = cc
-written_once (written.Length n) (written.Refused y) e = clash cc
-written_once (written.Refused x) (written.Length m) e = clash cc
-written_once (written.Refused x) (written.Refused y) e = ap written.Refused (refusal_once x y e)
+written_once (Ok n) (Ok m) e = cc
+written_once (Ok n) (Err y) e = clash cc
+written_once (Err x) (Ok m) e = clash cc
+written_once (Err x) (Err y) e = ap Err (refusal_once x y e)
 
 pub replies_distinct : RepliesDistinct
 replies_distinct = (load_once, verdict_once, advance_once, answer_once, written_once)

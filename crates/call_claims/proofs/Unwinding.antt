@@ -2,6 +2,7 @@
 -- when they are the same, or both have runs under way that are low-equal. An advance of a
 -- high-water run ends it and hides how it was lost, so every call keeps low-equal runners so and
 -- tells the same (output consistency); then one induction over the list. Assumes nothing.
+use Rattle.std.specs.Prelude.{Ok, Err}
 use Prim.Native.Nat.{ℕ, ◌≤◌, ◌<◌}
 use mathlib.Core.Path.{◌≡◌, refl, ap, sym, ◌∙◌, subst}
 use mathlib.Core.List.{List, [], ◌∷◌}
@@ -18,8 +19,7 @@ use Rattle.run_claims.proofs.Counting.{Over, run_ends}
 use Rattle.run_claims.proofs.Lost.{lost_hidden}
 use Rattle.run_claims.proofs.Low.{Agree, with_vars, Watched, surveyed, unmarked, Low, same_run, runs_apart, both_lost, run_low}
 use Rattle.calls.specs.Calls.{Call, load, begin, advance, answer, abandon, write_back, rewrite, check}
-use Rattle.calls.specs.declared.Verdict.{Verdict}
-use Rattle.calls.specs.declared.Verdict.TheVariants.{Done, Refused}
+use Rattle.calls.specs.Calls.{Verdict}
 use Rattle.calls.proofs.Permits.{advance_enough}
 use Rattle.runner.specs.declared.Runner.{Runner}
 use Rattle.runner.specs.State.{least_in, standing_of, run_in, with_run, ended_with, dropped, flow_in, ran, resumed}
@@ -69,7 +69,7 @@ progress_close k (still_apart w s h) = refl
 
 module _ (r : Runner) (w : List ℕ) (s : r.state ≡ 1) {m : Mode} (g : Watched m (mode_of r.mode) r.counter) (b : hides m ≡ true → r.steps < r.limit)
     (h : Agree r.marks r.vars w) where
-  ran_close : (k : ℕ) → check (advance k) (standing_of r) ≡ Done → Close (ran k r) (ran k (other_vars r w))
+  ran_close : (k : ℕ) → check (advance k) (standing_of r) ≡ Ok tt → Close (ran k r) (ran k (other_vars r w))
   ran_close k e = by g (run_low (flow_in r) k (runs_apart {q = run_in r} w g h)) b
     where
       enough : least_in r ≤ k
@@ -91,7 +91,7 @@ module _ (r : Runner) (w : List ℕ) (s : r.state ≡ 1) {m : Mode} (g : Watched
           let under = below refl in
           in_mode_lem a (disclosed_close low (λ z. (run_ends (flow_in r) k (run_in r) under (omega arith), run_ends (flow_in r) k (with_vars (run_in r) w) under (omega arith))))
 
-  says_low : (c : Call) → check c (standing_of r) ≡ Done → says c r ≡ says c (other_vars r w)
+  says_low : (c : Call) → check c (standing_of r) ≡ Ok tt → says c r ≡ says c (other_vars r w)
   unfolding says
   says_low (load f) e = refl
   says_low (begin k i a l) e = refl
@@ -114,8 +114,8 @@ module _ (r : Runner) (w : List ℕ) (s : r.state ≡ 1) {m : Mode} (g : Watched
 
   outcome_low : (v : Verdict) (c : Call) → check c (standing_of r) ≡ v → Alike (outcome_by v c r) (outcome_by v c (other_vars r w))
   unfolding outcome_by
-  outcome_low (Refused x) c e = record { told = refl; next = apart w s g b h }
-  outcome_low Done c e =
+  outcome_low (Err x) c e = record { told = refl; next = apart w s g b h }
+  outcome_low (Ok _) c e =
       let buffer = lent_as (with_file r.header r.table) c in
       record { told = ap (λ (x : Reply). record { reply = x; buffer = buffer }) (says_low c e); next = after_low (effect c) (λ k z. ran_close k (runs_accepted c k r z e)) }
 

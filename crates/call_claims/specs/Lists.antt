@@ -1,8 +1,8 @@
 -- Lists of calls: "each call getting the runner that the last one handed back".
+use Rattle.std.specs.Prelude.{Ok, Err}
 use Rattle.std.specs.Prelude.{ℕ, ◌+◌, ◌≡◌}
 use mathlib.Core.List.{List, [], ◌∷◌, Memᴰ}
 use Rattle.calls.specs.Calls.{Call, begin, answer, check}
-use Rattle.calls.specs.declared.Verdict.TheVariants.{Done}
 use Rattle.runner.specs.declared.Runner.{Runner}
 use Rattle.runner.specs.State.{standing_of, new_runner}
 use Rattle.runner.specs.Outcomes.{Reply, Told, Effect, runs, keeps, begins, drops, replaces, effect, call}
@@ -14,7 +14,7 @@ pub data Reached : Runner → Type 0 where
 
 -- "Accepted means not refused."
 abbrev pub Accepted : Call → Runner → Type 0
-Accepted c r = check c (standing_of r) ≡ Done
+Accepted c r = check c (standing_of r) ≡ Ok tt
 
 -- The runner that a begin hands back.
 abbrev pub begun : (mode : ℕ) (inputs : List ℕ) (allowed limit : ℕ) → Runner → Runner

@@ -1,5 +1,6 @@
 -- What an accepted begin, advance, write back and rewriting say of their arguments: each of their
 -- rules has been kept. Assumes nothing.
+use Rattle.std.specs.Prelude.{Ok, Err}
 use Prim.Native.Nat.{ℕ, ◌/◌, ◌^◌, ◌≤◌}
 use mathlib.Core.Path.{◌≡◌, refl}
 use mathlib.Core.List.{List}
@@ -14,14 +15,13 @@ use Rattle.format.specs.declared.Header.{Header}
 use Rattle.chart.specs.WriteBack.{file_length, has_room}
 use Rattle.calls.specs.Calls.{begin, advance, write_back, rewrite, refuse_if, check}
 use Rattle.calls.specs.declared.Standing.{Standing}
-use Rattle.calls.specs.declared.Verdict.{Verdict}
-use Rattle.calls.specs.declared.Verdict.TheVariants.{Done, Refused}
+use Rattle.calls.specs.Calls.{Verdict}
 
-pub not_done {ℓ} : {A : Type ℓ} {x : Refusal} → Refused x ≡ Done → A
+pub not_done {ℓ} : {A : Type ℓ} {x : Refusal} → Err x ≡ Ok tt → A
 not_done e = let z : ◌≡◌ {A = ℕ} 0 1 = cc in absurd (omega arith)
 
 -- A rule on the way to an accepted call.
-pub passed : (broken : Bool) {otherwise : Verdict} (number : ℕ) → refuse_if broken number otherwise ≡ Done → (broken ≡ false) × (otherwise ≡ Done)
+pub passed : (broken : Bool) {otherwise : Verdict} (number : ℕ) → refuse_if broken number otherwise ≡ Ok tt → (broken ≡ false) × (otherwise ≡ Ok tt)
 passed true number e = not_done e
 passed false number e = (refl, e)
 
@@ -33,7 +33,7 @@ pub record Permitted (h : Header) (mode : ℕ) (inputs : List ℕ) (allowed limi
   pub below : allowed / 2 ^ h.inputs ≡ 0
   pub fits : limit ≤ 65535
 
-module _ (mode : ℕ) (inputs : List ℕ) (allowed limit : ℕ) (s : Standing) (e : check (begin mode inputs allowed limit) s ≡ Done) where
+module _ (mode : ℕ) (inputs : List ℕ) (allowed limit : ℕ) (s : Standing) (e : check (begin mode inputs allowed limit) s ≡ Ok tt) where
   pub permitted : Permitted s.header mode inputs allowed limit
   unfolding check
   permitted =
@@ -52,7 +52,7 @@ module _ (mode : ℕ) (inputs : List ℕ) (allowed limit : ℕ) (s : Standing) (
       }
 
 -- An accepted advance is of a run under way, by the least amount or more.
-pub advance_enough : (m : ℕ) (s : Standing) → check (advance m) s ≡ Done → (s.running ≡ true) × (s.least ≤ m)
+pub advance_enough : (m : ℕ) (s : Standing) → check (advance m) s ≡ Ok tt → (s.running ≡ true) × (s.least ≤ m)
 unfolding check
 advance_enough m s e =
     let one = passed (not s.running) 23 e in
@@ -60,7 +60,7 @@ advance_enough m s e =
     (not-false _ one.0, ltb-false m s.least two.0)
 
 -- An accepted write back has a chart and room for its file.
-pub write_back_fits : (buffer : List ℕ) (s : Standing) → check (write_back buffer) s ≡ Done
+pub write_back_fits : (buffer : List ℕ) (s : Standing) → check (write_back buffer) s ≡ Ok tt
     → (in_range s.header ≡ true) × (file_length s.header ≤ length buffer)
 unfolding check
 write_back_fits buffer s e =
@@ -69,7 +69,7 @@ write_back_fits buffer s e =
     (not-false _ one.0, leb-true _ _ (not-false _ two.0))
 
 -- An accepted rewriting is of a chart of edition 2, and of no run under way.
-pub rewrites_second : (s : Standing) → check rewrite s ≡ Done → (in_range s.header ≡ true) × (s.running ≡ false) × (s.header.edition ≡ 2)
+pub rewrites_second : (s : Standing) → check rewrite s ≡ Ok tt → (in_range s.header ≡ true) × (s.running ≡ false) × (s.header.edition ≡ 2)
 unfolding check
 rewrites_second s e =
     let one = passed (not (in_range s.header)) 21 e in

@@ -1,15 +1,14 @@
 -- The seven calls, and what refuses each of them: by one definition, with the refusals in the
 -- documents' order.
+use Rattle.std.specs.Prelude.{Ok, Err}
 use Rattle.std.specs.Prelude.{ℕ, ◌/◌, ◌^◌, List, Bool, not, eqb, ltb, length}
 use Rattle.block.specs.Refusing.{refusal, refuse_into}
 use Rattle.block.specs.declared.Refusal.{Refusal}
 use Rattle.format.specs.File.{in_range, check_file}
-use Rattle.format.specs.declared.Checked.{Checked}
-use Rattle.format.specs.declared.Checked.TheVariants as checked
+use Rattle.format.specs.File.{Checked}
 use Rattle.chart.specs.WriteBack.{has_room}
 use Rattle.calls.specs.declared.Standing.{Standing}
-use Rattle.calls.specs.declared.Verdict.{Verdict}
-use Rattle.calls.specs.declared.Verdict.TheVariants.{Done, Refused}
+use Rattle.calls.specs.Calls.{Verdict}
 
 -- "The calls are all that take the runner: load, begin, advance, answer, abandon and write back."
 -- 02, g: "the rewriter joins the calls".
@@ -24,15 +23,15 @@ pub data Call : Type 0 where
 
 -- A refusal whose detail is 0, and a rule that refuses where it is broken.
 abbrev pub refuse : ℕ → Verdict
-refuse number = Refused (refusal number 0)
+refuse number = Err (refusal number 0)
 
 abbrev pub refuse_if : (broken : Bool) (number : ℕ) → Verdict → Verdict
-refuse_if broken number otherwise = refuse_into Refused broken number 0 otherwise
+refuse_if broken number otherwise = refuse_into Err broken number 0 otherwise
 
 -- A value by a verdict: of a call that is done, or of a refusal.
 abbrev pub by_verdict : {A : Type 0} → Verdict → A → (Refusal → A) → A
-by_verdict Done done refused = done
-by_verdict (Refused x) done refused = refused x
+by_verdict (Ok _) done refused = done
+by_verdict (Err x) done refused = refused x
 
 -- What a begin and a rewriting ask first: a chart, and no run under way.
 abbrev pub at_rest : Standing → Verdict → Verdict
@@ -40,8 +39,8 @@ at_rest s otherwise = refuse_if (not (in_range s.header)) 21 (refuse_if s.runnin
 
 -- The verdict of load's input checks 1 to 6.
 unfoldable pub file_verdict : Checked → Verdict
-file_verdict (checked.Accepted h) = Done
-file_verdict (checked.Refused x) = Refused x
+file_verdict (Ok h) = Ok tt
+file_verdict (Err x) = Err x
 
 -- "State comes before input. Load: 22, then 1 to 6 in order. Begin: 21, 22, 7, 9, 8, 10. Write
 -- back: 21, 12."
@@ -60,9 +59,9 @@ check (begin mode inputs allowed limit) s =
     (refuse_if (not (eqb (length inputs) s.header.inputs)) 9
     (refuse_if (not (eqb (allowed / 2 ^ s.header.inputs) 0)) 8
     (refuse_if (ltb 65535 limit) 10
-    Done))))
-check (advance m) s = refuse_if (not s.running) 23 (refuse_if (ltb m s.least) 13 Done)
-check answer s = refuse_if (not s.ended) 24 Done
-check abandon s = refuse_if (not s.running) 23 Done
-check (write_back buffer) s = refuse_if (not (in_range s.header)) 21 (refuse_if (not (has_room s.header (length buffer))) 12 Done)
-check rewrite s = at_rest s (refuse_if (not (eqb s.header.edition 2)) 15 Done)
+    (Ok tt)))))
+check (advance m) s = refuse_if (not s.running) 23 (refuse_if (ltb m s.least) 13 (Ok tt))
+check answer s = refuse_if (not s.ended) 24 (Ok tt)
+check abandon s = refuse_if (not s.running) 23 (Ok tt)
+check (write_back buffer) s = refuse_if (not (in_range s.header)) 21 (refuse_if (not (has_room s.header (length buffer))) 12 (Ok tt))
+check rewrite s = at_rest s (refuse_if (not (eqb s.header.edition 2)) 15 (Ok tt))

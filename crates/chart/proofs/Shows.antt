@@ -1,4 +1,5 @@
 -- Which part show a box returns, from the facts that lead there. Assumes nothing.
+use Rattle.std.specs.Prelude.{Ok, Err}
 use Prim.Native.Nat.{ℕ, ◌+◌, ◌≤◌, ◌<◌}
 use mathlib.Core.Path.{◌≡◌}
 use mathlib.Core.List.{List}
@@ -8,11 +9,10 @@ use borrow.Author.Tests.{lt-ltb, le-ltb}
 use Rattle.block.specs.declared.Refusal.{Refusal}
 use Rattle.format.specs.File.{place_start, check_file}
 use Rattle.format.specs.declared.Header.{Header}
-use Rattle.format.specs.declared.Checked.TheVariants.{Accepted, Refused}
 use Rattle.format.proofs.Passes.{passes}
 use Rattle.chart.specs.ShowBox.{shown_by, show_box}
 
-module _ (f : List ℕ) (p : ℕ) (h : Header) (e : check_file f ≡ Accepted h) where
+module _ (f : List ℕ) (p : ℕ) (h : Header) (e : check_file f ≡ Ok h) where
   pub shown_within : p < h.boxes → place_start p + 10 ≤ length f
   shown_within l = let a = passes f h e in omega (arith, a.long, a.fits)
 
@@ -24,6 +24,6 @@ module _ (f : List ℕ) (p : ℕ) (h : Header) (e : check_file f ≡ Accepted h)
   unfolding shown_by
   shows_none l = rw (e, le-ltb p h.boxes l)
 
-pub shows_refused : (f : List ℕ) (p : ℕ) (r : Refusal) → check_file f ≡ Refused r → show_box f p ≡ record { start = 0; size = 0 }
+pub shows_refused : (f : List ℕ) (p : ℕ) (r : Refusal) → check_file f ≡ Err r → show_box f p ≡ record { start = 0; size = 0 }
 unfolding shown_by
 shows_refused f p r e = rw e

@@ -1,12 +1,12 @@
 -- "Show a box: needs no runner. It takes a file and a number and returns the ten bytes of that box
 -- as a part of the lent file, or an empty part exactly when load's input checks would refuse the
 -- file or the number isn't below n."
+use Rattle.std.specs.Prelude.{Ok, Err}
 use Rattle.std.specs.Prelude.{ℕ, ◌+◌, ◌≡◌, List, cond, ltb}
 use Rattle.std.specs.Borrow.{Bor}
 use Rattle.boxes.specs.Bytes.{part}
 use Rattle.format.specs.File.{place_start, check_file}
-use Rattle.format.specs.declared.Checked.{Checked}
-use Rattle.format.specs.declared.Checked.TheVariants.{Accepted, Refused}
+use Rattle.format.specs.File.{Checked}
 
 -- A part of a list: where it starts, and its size.
 pub record Span : Type 0 where
@@ -18,8 +18,8 @@ empty = record { start = 0; size = 0 }
 
 -- The part to show, by what load's input checks answer.
 unfoldable pub shown_by : Checked → ℕ → Span
-shown_by (Accepted h) p = cond (ltb p h.boxes) (record { start = place_start p; size = 10 }) empty
-shown_by (Refused r) p = empty
+shown_by (Ok h) p = cond (ltb p h.boxes) (record { start = place_start p; size = 10 }) empty
+shown_by (Err r) p = empty
 
 abbrev pub show_box : List ℕ → ℕ → Span
 show_box f p = shown_by (check_file f) p

@@ -1,9 +1,14 @@
 -- A chart's file written into a buffer, by write back and by the converter: its length, the room
 -- for it, and the buffer afterwards.
-use Rattle.std.specs.Prelude.{ℕ, ◌*◌, List, ◌++◌, Bool, cond, ◌&&◌, leb, length, drop}
+use Rattle.std.specs.Prelude.{ℕ, ◌*◌, List, ◌++◌, Bool, Result, cond, ◌&&◌, leb, length, drop}
+use Rattle.block.specs.declared.Refusal.{Refusal}
 use Rattle.format.specs.File.{blocks_for, in_range}
 use Rattle.format.specs.declared.Header.{Header}
 use Rattle.chart.specs.Chart.{file_of}
+
+-- What is told where a chart's file is to be written: its length, or a refusal.
+abbrev pub Written : Type 0
+Written = Result ℕ Refusal
 
 -- The length of a chart's file.
 abbrev pub file_length : Header → ℕ

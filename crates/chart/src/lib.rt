@@ -8,15 +8,7 @@ ghost use Rattle.chart.specs.Chart.{box_blocks, table_of, header_body, sealed_bl
 ghost use Rattle.chart.specs.WriteBack.{file_length, with_file, put_file};
 ghost use Rattle.chart.specs.ShowBox.{show_box, IsPart};
 
-use block::Refusal;
-use format::{Checked, Header};
-
-// What is told where a chart's file is to be written: its length, or a refusal.
-#[derive(Clone, Copy)]
-pub enum Written {
-    Length(usize),
-    Refused(Refusal),
-}
+use format::Header;
 
 fn box_blocks(bytes: usize) -> usize
     ensures { result ≡ box_blocks bytes }
@@ -125,16 +117,13 @@ pub fn put_file(header: Header, table: &[u8; 2040], buf: &mut [u8])
 pub fn show_box(file: &[u8], number: u32) -> &[u8]
     ensures { IsPart (show_box file.now number) file.entry result }
 {
-    let checked = format::check_file(file);
-    match checked {
-        Checked::Accepted(header) => {
-            if number < widen::to_u32(header.boxes) {
-                let start = format::place_start(number);
-                let end = start + 10;
-                return &file[start..end];
-            }
-            &file[0..0]
-        }
-        Checked::Refused(_) => &file[0..0],
+    let Ok(header) = format::check_file(file) else {
+        return &file[0..0];
+    };
+    if number < widen::to_u32(header.boxes) {
+        let start = format::place_start(number);
+        let end = start + 10;
+        return &file[start..end];
     }
+    &file[0..0]
 }

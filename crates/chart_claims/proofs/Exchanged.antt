@@ -1,6 +1,7 @@
 -- Blocks of an accepted file of edition 2 that are out of order. The blocks below b and byte 4 of
 -- block 0 stay, so the checks below b hold; the block in the place of b, sealed for its own place,
 -- isn't sealed for this one. Assumes nothing.
+use Rattle.std.specs.Prelude.{Ok, Err}
 use Prim.Native.Nat.{ℕ, ◌*◌, ◌/◌, ◌≤◌, ◌<◌}
 use mathlib.Core.Path.{◌≡◌, refl, ap, sym, ◌∙◌}
 use mathlib.Core.List.{List, [], append-nil}
@@ -17,7 +18,6 @@ use Rattle.block.specs.Block.{is_sealed}
 use Rattle.block.specs.Refusing.{refusal}
 use Rattle.format.specs.File.{addend, blocks_of, block_of, header_of, length_rule, check_rule, check_file}
 use Rattle.format.specs.declared.Header.{Header}
-use Rattle.format.specs.declared.Checked.TheVariants.{Accepted, Refused}
 use Rattle.format.proofs.Search.{first_is}
 use Rattle.format.proofs.Seals.{sealed_once}
 use Rattle.format.proofs.Checks.{tells_check}
@@ -26,7 +26,7 @@ use Rattle.chart.proofs.Lists.{length_part}
 use Rattle.chart.proofs.Joined.{Sized, joined_length, joined_piece}
 use Rattle.chart_claims.specs.Exchanged.{rearranged, in_place_of, ExchangeRefused, OutOfOrderRefused, OthersAddNothing}
 
-module _ (f : List ℕ) (h : Header) (e : check_file f ≡ Accepted h) (two : h.edition ≡ 2) where
+module _ (f : List ℕ) (h : Header) (e : check_file f ≡ Ok h) (two : h.edition ≡ 2) where
   facts : checked.Passes f h
   facts = checked.passes f h e
 
@@ -82,13 +82,13 @@ module _ (f : List ℕ) (h : Header) (e : check_file f ≡ Accepted h) (two : h.
           asked b last
           ∙ never_true _ (λ s. moved (sealed_once (from b) b (block_of f (from b)) (omega (arith, few)) (omega (arith, few)) (sealed (from b) l) s))
 
-      refused : check_file (rearranged from f) ≡ Refused (refusal 2 b)
+      refused : check_file (rearranged from f) ≡ Err (refusal 2 b)
       refused =
           let g = rearranged from f in
           let one : length_rule (length g) ≡ true = ap length_rule long ∙ facts.sized in
           let all : blocks_of g ≡ blocks_of f = ap (λ (n : ℕ). n / 512) long in
           let detail = first_is (check_rule g (header_of g)) (blocks_of g) b (omega (arith, all)) holds_below fails_there in
-          sym (tells_check g one (omega (arith, detail, all))) ∙ ap (λ (n : ℕ). Refused (refusal 2 n)) detail
+          sym (tells_check g one (omega (arith, detail, all))) ∙ ap (λ (n : ℕ). Err (refusal 2 n)) detail
 
 pub out_of_order_refused : OutOfOrderRefused
 out_of_order_refused f h from b e two within first last same moved = refused f h e two from within b first last same moved

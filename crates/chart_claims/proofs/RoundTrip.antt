@@ -1,6 +1,7 @@
 -- The round trip. Each block of an accepted file is its first 510 bytes with their check; those
 -- bytes are the header's or stand in the box table; so the blocks that write back joins are the
 -- file's, and what holds of the file holds of what is written. Assumes nothing.
+use Rattle.std.specs.Prelude.{Ok, Err}
 use Prim.Native.Nat.{ℕ, zero, suc, ◌+◌, ◌*◌, ◌-◌, ◌≤◌, ◌<◌}
 use mathlib.Core.Path.{◌≡◌, refl, ap, sym, ◌∙◌}
 use mathlib.Core.List.{List, [], ◌∷◌, ◌++◌}
@@ -16,7 +17,6 @@ use Rattle.block.proofs.Sums.{check_front}
 use Rattle.block.proofs.Seals.{sealed_bytes}
 use Rattle.format.specs.File.{addend, block_of, blocks_for, check_rule, check_file}
 use Rattle.format.specs.declared.Header.{Header}
-use Rattle.format.specs.declared.Checked.TheVariants as checked
 use Rattle.boxes.proofs.Zeros.{zeros_are}
 use Rattle.format.proofs.Passes.{Passes, passes}
 use Rattle.format.proofs.Ranges.{in_range_lem}
@@ -56,7 +56,7 @@ header_again f h a l =
     let whole : take 510 f ≡ take 8 f ++ part f 8 502 = take-add 8 502 f in
     rw (take-take 510 512 f (omega arith), whole, eight f (omega arith), zeros, p.f0, p.f1, p.f2, p.f3, a.header)
 
-module _ (f : List ℕ) (h : Header) (e : check_file f ≡ checked.Accepted h) where
+module _ (f : List ℕ) (h : Header) (e : check_file f ≡ Ok h) where
   facts : Passes f h
   facts = passes f h e
 
@@ -90,7 +90,7 @@ joined_parts size f zero = ap (λ (k : ℕ). take k f) (sym (mul-zero size))
 joined_parts size f (suc m) =
     ap (λ (x : List ℕ). x ++ part f (size * m) size) (joined_parts size f m) ∙ sym (take-add (size * m) size f) ∙ ap (λ (k : ℕ). take k f) (sym (mul-suc size m))
 
-pub file_again : (f : List ℕ) (h : Header) → check_file f ≡ checked.Accepted h → file_of h (table_of f) ≡ f
+pub file_again : (f : List ℕ) (h : Header) → check_file f ≡ Ok h → file_of h (table_of f) ≡ f
 unfolding file_of
 file_again f h e =
     let a = passes f h e in

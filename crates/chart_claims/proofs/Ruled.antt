@@ -2,6 +2,7 @@
 -- of the file is the j-th block that was joined, so its front is the header's, its checks hold, its
 -- places are the boxes of the table, and what the blocks leave of the table is zeros. Assumes
 -- nothing.
+use Rattle.std.specs.Prelude.{Ok, Err}
 use Prim.Native.Nat.{ℕ, zero, suc, ◌+◌, ◌*◌, ◌-◌, ◌/◌, ◌%◌, ◌≤◌, ◌<◌}
 use mathlib.Core.Path.{◌≡◌, refl, ap, sym, ◌∙◌}
 use mathlib.Core.List.{List, [], append-nil}
@@ -18,7 +19,6 @@ use Rattle.block.specs.Block.{seal}
 use Rattle.block.proofs.Seals.{seal_seals}
 use Rattle.format.specs.File.{addend, blocks_of, block_of, header_of, blocks_for, place_start, place_of, length_rule, check_rule, letters_rule, in_range, header_rule, box_rule, place_rule, check_file}
 use Rattle.format.specs.declared.Header.{Header}
-use Rattle.format.specs.declared.Checked.TheVariants.{Accepted}
 use Rattle.format.proofs.Ranges.{in_range_lem}
 use Rattle.format.proofs.Search.{none_fails}
 use Rattle.format.proofs.Checks.{Past, tells_chart}
@@ -140,7 +140,7 @@ module _ (h : Header) (table : List ℕ) (rules : Ruled h table) where
       on (yes below) = rw (lt-ltb p h.boxes below) (rules.formed p below)
       on (no past) = rw (le-ltb p h.boxes (omega arith)) (rules.zero p (omega arith))
 
-  accepts : check_file file ≡ Accepted h
+  accepts : check_file file ≡ Ok h
   accepts =
       let past : Past file =
       record {
@@ -150,7 +150,7 @@ module _ (h : Header) (table : List ℕ) (rules : Ruled h table) where
         four = header_holds;
       } in
       let sized : blocks_of file ≡ blocks_for (header_of file).boxes = counts ∙ ap (λ (k : Header). blocks_for k.boxes) (sym header_is) in
-      sym (tells_chart file past sized (omega (arith, none_fails (place_rule file (header_of file)) (51 * (blocks_of file - 1)) place_holds))) ∙ ap Accepted header_is
+      sym (tells_chart file past sized (omega (arith, none_fails (place_rule file (header_of file)) (51 * (blocks_of file - 1)) place_holds))) ∙ ap Ok header_is
 
   table_again : table_of file ≡ table
   unfolding table_of

@@ -1,6 +1,7 @@
 -- The boxes of a loaded table obey the box rules. Place p of the file is box p of the table, since
 -- the table's pieces are the file's blocks of boxes; the file's checks say that place p breaks no
 -- rule; and the rules, kind by kind, say what is in range. Assumes nothing.
+use Rattle.std.specs.Prelude.{Ok, Err}
 use Prim.Native.Nat.{ℕ, ◌+◌, ◌*◌, ◌-◌, ◌/◌, ◌%◌, ◌≤◌, ◌<◌}
 use mathlib.Core.Path.{◌≡◌, ap, sym, ◌∙◌}
 use mathlib.Core.List.{List, [], ◌∷◌}
@@ -15,7 +16,6 @@ use Rattle.boxes.specs.Bytes.{at, part, all_zero, box_of}
 use Rattle.boxes.specs.Box.{readable, reads_left, reads_right, has_kind, operand_rule, assignment_rule, decision_rule, halt_rule, choice_rule, well_formed}
 use Rattle.format.specs.File.{blocks_for, place_start, place_of, box_rule, place_rule, check_file}
 use Rattle.format.specs.declared.Header.{Header}
-use Rattle.format.specs.declared.Checked.TheVariants as checked
 use Rattle.boxes.proofs.Bools.{and_left, and_right, or_cases, Every, every}
 use Rattle.format.proofs.Passes.{passes}
 use Rattle.chart.specs.Chart.{joined, box_blocks, boxes_of, table_of}
@@ -25,7 +25,7 @@ use Rattle.chart.proofs.Joined.{Sized, joined_length, joined_piece}
 use Rattle.chart_claims.proofs.RoundTrip.{box_blocks_lem}
 use Rattle.chart.proofs.Shows.{shows_box}
 
-module _ (f : List ℕ) (h : Header) (e : check_file f ≡ checked.Accepted h) where
+module _ (f : List ℕ) (h : Header) (e : check_file f ≡ Ok h) where
   boxes_sized : (m : ℕ) → m ≤ box_blocks (length f) → Sized (boxes_of f) 510 m
   boxes_sized m l i q = let a = passes f h e in length_part f (512 * (1 + i)) 510 (omega (arith, a.long, box_blocks_lem f h e))
 

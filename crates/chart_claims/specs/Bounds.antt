@@ -1,12 +1,12 @@
 -- The claims at their exact bounds, so that a claim whose bound is moved by one would be noticed
 -- here. Each is proved from the theorems of the claims that it is of; `EndsExchanged` needs besides
 -- that an accepted file has two blocks or more.
+use Rattle.std.specs.Prelude.{Ok, Err}
 use Rattle.std.specs.Prelude.{ℕ, ◌+◌, ◌≡◌, List, ◌⊎◌, ◌≢◌, true, length}
 use Rattle.boxes.specs.Bytes.{at, part, all_zero, box_of}
 use Rattle.block.specs.Refusing.{refusal}
 use Rattle.format.specs.File.{blocks_of, block_of, box_rule, check_file}
 use Rattle.format.specs.declared.Header.{Header}
-use Rattle.format.specs.declared.Checked.TheVariants.{Accepted, Refused}
 use Rattle.chart.specs.Chart.{table_of}
 use Rattle.chart.specs.ShowBox.{show_box}
 use Rattle.chart.specs.WriteBack.{file_length, has_room}
@@ -14,13 +14,13 @@ use Rattle.chart_claims.specs.Exchanged.{exchanged}
 
 -- "12: the buffer for writing back is shorter than the file": one exactly as long is enough.
 abbrev pub ExactRoom : Type 0
-ExactRoom = (f : List ℕ) (h : Header) → check_file f ≡ Accepted h → (file_length h ≡ length f) × (has_room h (length f) ≡ true)
+ExactRoom = (f : List ℕ) (h : Header) → check_file f ≡ Ok h → (file_length h ≡ length f) × (has_room h (length f) ≡ true)
 
 -- "or the number isn't below n": box n - 1 is shown.
 abbrev pub LastBoxShown : Type 0
 LastBoxShown =
     (f : List ℕ) (h : Header) (p : ℕ)
-    → check_file f ≡ Accepted h
+    → check_file f ≡ Ok h
     → p + 1 ≡ h.boxes
     → part f (show_box f p).start (show_box f p).size ≡ box_of (table_of f) p
 
@@ -29,11 +29,11 @@ LastBoxShown =
 abbrev pub EndsExchanged : Type 0
 EndsExchanged =
     (f : List ℕ) (h : Header) (j : ℕ)
-    → check_file f ≡ Accepted h
+    → check_file f ≡ Ok h
     → h.edition ≡ 2
     → j + 1 ≡ blocks_of f
     → j ≢ 1
-    → (block_of f 1 ≢ block_of f j) × (check_file (exchanged 1 j f) ≡ Refused (refusal 2 1))
+    → (block_of f 1 ≢ block_of f j) × (check_file (exchanged 1 j f) ≡ Err (refusal 2 1))
 
 -- Edition 1 or 2; "k, 0 to 16"; "n, 1 to 204"; "the first box run, below n": no number is the first
 -- one out of range.
@@ -64,4 +64,4 @@ pub record ChartBounds (h : Header) (table : List ℕ) : Type 0 where
   pub zero : all_zero (box_of table h.boxes) ≡ true
 
 abbrev pub LoadsWithinBounds : Type 0
-LoadsWithinBounds = (f : List ℕ) (h : Header) → check_file f ≡ Accepted h → ChartBounds h (table_of f)
+LoadsWithinBounds = (f : List ℕ) (h : Header) → check_file f ≡ Ok h → ChartBounds h (table_of f)

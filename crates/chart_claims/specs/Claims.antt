@@ -1,11 +1,11 @@
 -- What is claimed of the definitions: the file's half of demand 2, the rules that a loaded chart
 -- obeys, that any chart which obeys them has a file that loads to it, what show a box shows, and
 -- the ranges of the numbers in a loaded chart.
+use Rattle.std.specs.Prelude.{Ok, Err}
 use Rattle.std.specs.Prelude.{ℕ, ◌≤◌, ◌<◌, ◌≡◌, List, ◌++◌, true, length, drop}
 use Rattle.boxes.specs.Bytes.{at, part, all_zero, box_of}
 use Rattle.format.specs.File.{is_edition, in_range, box_rule, check_file}
 use Rattle.format.specs.declared.Header.{Header}
-use Rattle.format.specs.declared.Checked.TheVariants.{Accepted}
 use Rattle.chart.specs.Chart.{table_of, file_of}
 use Rattle.chart.specs.ShowBox.{show_box}
 use Rattle.chart.specs.WriteBack.{file_length, has_room, put_file}
@@ -20,7 +20,7 @@ FileHasLength = (h : Header) (table : List ℕ) → in_range h ≡ true → leng
 abbrev pub ReproducesFile : Type 0
 ReproducesFile =
     (f : List ℕ) (h : Header)
-    → check_file f ≡ Accepted h
+    → check_file f ≡ Ok h
     → (file_of h (table_of f) ≡ f)
     × (file_length h ≡ length f)
     × ((buffer : List ℕ)
@@ -31,8 +31,8 @@ ReproducesFile =
 abbrev pub ReproducesChart : Type 0
 ReproducesChart =
     (f : List ℕ) (h : Header)
-    → check_file f ≡ Accepted h
-    → (check_file (file_of h (table_of f)) ≡ Accepted h) × (table_of (file_of h (table_of f)) ≡ table_of f)
+    → check_file f ≡ Ok h
+    → (check_file (file_of h (table_of f)) ≡ Ok h) × (table_of (file_of h (table_of f)) ≡ table_of f)
 
 -- A chart that obeys the rules: its header's numbers are those of a file, its table has 204 places
 -- of ten bytes, its boxes break no rule, and the places past them are zero.
@@ -45,21 +45,21 @@ pub record Ruled (h : Header) (table : List ℕ) : Type 0 where
 
 -- A loaded chart obeys them.
 abbrev pub ObeysRules : Type 0
-ObeysRules = (f : List ℕ) (h : Header) → check_file f ≡ Accepted h → Ruled h (table_of f)
+ObeysRules = (f : List ℕ) (h : Header) → check_file f ≡ Ok h → Ruled h (table_of f)
 
 -- And a chart that obeys them, wherever it comes from, has a file that loads to it.
 abbrev pub RuledIsLoaded : Type 0
 RuledIsLoaded =
     (h : Header) (table : List ℕ)
     → Ruled h table
-    → (check_file (file_of h table) ≡ Accepted h) × (table_of (file_of h table) ≡ table)
+    → (check_file (file_of h table) ≡ Ok h) × (table_of (file_of h table) ≡ table)
 
 -- "returns the ten bytes of that box": of an accepted file and a number below n, the part that is
 -- shown is the box that the table holds.
 abbrev pub ShowsTheBox : Type 0
 ShowsTheBox =
     (f : List ℕ) (h : Header) (p : ℕ)
-    → check_file f ≡ Accepted h
+    → check_file f ≡ Ok h
     → p < h.boxes
     → (length (part f (show_box f p).start (show_box f p).size) ≡ 10) × (part f (show_box f p).start (show_box f p).size ≡ box_of (table_of f) p)
 
@@ -83,5 +83,5 @@ pub data BoxInRange (edition n : ℕ) (b : List ℕ) : Type 0 where
 abbrev pub StaysInRange : Type 0
 StaysInRange =
     (f : List ℕ) (h : Header)
-    → check_file f ≡ Accepted h
+    → check_file f ≡ Ok h
     → HeaderInRange h × ((p : ℕ) → p < h.boxes → BoxInRange h.edition h.boxes (box_of (table_of f) p))

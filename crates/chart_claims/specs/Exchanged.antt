@@ -1,11 +1,11 @@
 -- 02, d: "A chart joined from a ticket with its box blocks out of order loaded." In edition 2 it is
 -- refused. What changes places is whole blocks of 512 bytes, with their checks; a box block is any
 -- but block 0.
+use Rattle.std.specs.Prelude.{Ok, Err}
 use Rattle.std.specs.Prelude.{ℕ, ◌≤◌, ◌<◌, ◌≡◌, List, ◌≢◌, cond, eqb}
 use Rattle.block.specs.Refusing.{refusal}
 use Rattle.format.specs.File.{addend, blocks_of, block_of, check_file}
 use Rattle.format.specs.declared.Header.{Header}
-use Rattle.format.specs.declared.Checked.TheVariants.{Accepted, Refused}
 use Rattle.chart.specs.Chart.{joined}
 
 -- A file joined of a file's blocks: in place b stands block (from b).
@@ -24,26 +24,26 @@ exchanged i j f = rearranged (in_place_of i j) f
 abbrev pub ExchangeRefused : Type 0
 ExchangeRefused =
     (f : List ℕ) (h : Header) (i j : ℕ)
-    → check_file f ≡ Accepted h
+    → check_file f ≡ Ok h
     → h.edition ≡ 2
     → 1 ≤ i
     → i < j
     → j < blocks_of f
-    → (block_of f i ≢ block_of f j) × (check_file (exchanged i j f) ≡ Refused (refusal 2 i))
+    → (block_of f i ≢ block_of f j) × (check_file (exchanged i j f) ≡ Err (refusal 2 i))
 
 -- However blocks of the file follow its block 0, some of them twice or not at all: the detail is
 -- the first block that is in another's place.
 abbrev pub OutOfOrderRefused : Type 0
 OutOfOrderRefused =
     (f : List ℕ) (h : Header) (from : ℕ → ℕ) (b : ℕ)
-    → check_file f ≡ Accepted h
+    → check_file f ≡ Ok h
     → h.edition ≡ 2
     → ((p : ℕ) → p < blocks_of f → from p < blocks_of f)
     → 1 ≤ b
     → b < blocks_of f
     → ((p : ℕ) → p < b → from p ≡ p)
     → from b ≢ b
-    → check_file (rearranged from f) ≡ Refused (refusal 2 b)
+    → check_file (rearranged from f) ≡ Err (refusal 2 b)
 
 -- Document 01's check stays wherever byte 4 of block 0 is not 2.
 abbrev pub OthersAddNothing : Type 0

@@ -1,18 +1,17 @@
 -- 02, f: "The converter takes a whole file and a buffer and writes the other edition's file, with
 -- the same boxes in the same places, at the front of the buffer. Bytes past it stay untouched; the
 -- converter tells the file's length."
+use Rattle.std.specs.Prelude.{Ok, Err}
 use Rattle.std.specs.Prelude.{ℕ, List, Bool, cond, not, ◌&&◌, ◌||◌, eqb, ltb, length}
 use Rattle.boxes.specs.Bytes.{at, box_of}
 use Rattle.boxes.specs.Box.{has_kind}
 use Rattle.format.specs.Search.{first_failing}
 use Rattle.format.specs.File.{refuse_if, check_file}
 use Rattle.format.specs.declared.Header.{Header}
-use Rattle.format.specs.declared.Checked.{Checked}
-use Rattle.format.specs.declared.Checked.TheVariants as checked
+use Rattle.format.specs.File.{Checked}
 use Rattle.chart.specs.Chart.{table_of}
 use Rattle.chart.specs.WriteBack.{file_length, with_file, has_room}
-use Rattle.chart.specs.declared.Written.{Written}
-use Rattle.chart.specs.declared.Written.TheVariants as written
+use Rattle.chart.specs.WriteBack.{Written}
 
 -- "the other edition", and the header of a chart in it.
 abbrev pub other_than : ℕ → ℕ
@@ -44,12 +43,12 @@ check_chart h table room =
     let untaken = first_failing (takes_box other.edition table) h.boxes in
     refuse_if (ltb untaken h.boxes) 14 untaken
     (refuse_if (not (has_room other room)) 12 0
-    (checked.Accepted other))
+    (Ok other))
 
 -- "01's load checks 1 to 6 come first."
 unfoldable pub check_after : Checked → (table : List ℕ) (room : ℕ) → Checked
-check_after (checked.Accepted h) table room = check_chart h table room
-check_after (checked.Refused x) table room = checked.Refused x
+check_after (Ok h) table room = check_chart h table room
+check_after (Err x) table room = Err x
 
 -- What the converter tells, and every byte of the buffer after it.
 pub record Conversion : Type 0 where
@@ -61,8 +60,8 @@ conversion told buffer = record { told = told; buffer = buffer }
 
 -- By the answer: the file is put at the front of the buffer, or nothing changes.
 unfoldable pub conversion_by : Checked → (table buffer : List ℕ) → Conversion
-conversion_by (checked.Accepted h) table buffer = conversion (written.Length (file_length h)) (with_file h table buffer)
-conversion_by (checked.Refused x) table buffer = conversion (written.Refused x) buffer
+conversion_by (Ok h) table buffer = conversion (Ok (file_length h)) (with_file h table buffer)
+conversion_by (Err x) table buffer = conversion (Err x) buffer
 
 unfoldable pub convert : (file buffer : List ℕ) → Conversion
 convert file buffer = conversion_by (check_after (check_file file) (table_of file) (length buffer)) (table_of file) buffer

@@ -2,6 +2,7 @@
 -- does the same in both editions and a place past the last is a halt in both; so two runners that
 -- differ in the edition alone tell the same at every call but a write back and a rewriting, and
 -- differ in it alone afterwards, or in nothing after a load. Assumes nothing.
+use Rattle.std.specs.Prelude.{Ok, Err}
 use Prim.Native.Nat.{ℕ, ◌*◌, ◌<◌}
 use mathlib.Core.Path.{◌≡◌, refl, ap, ap₂, subst, sym, ◌∙◌, fun_ext}
 use mathlib.Core.List.{List, [], ◌∷◌}
@@ -16,7 +17,6 @@ use Rattle.boxes.proofs.Zeros.{zeros_are}
 use Rattle.format.specs.File.{header_of, check_file}
 use Rattle.format.specs.declared.Header.{Header}
 use Rattle.block.specs.declared.Refusal.{Refusal}
-use Rattle.format.specs.declared.Checked.TheVariants as checked
 use Rattle.format.proofs.Passes.{passes}
 use Rattle.chart.specs.Chart.{table_of, Chart, chart_of}
 use Rattle.chart.proofs.Lists.{length_part}
@@ -28,8 +28,7 @@ use Rattle.marks.specs.Marks.{mode_of}
 use Rattle.machine.specs.Run.{Progress, going, over, run}
 use Rattle.runs.specs.Whole.{disclosed, whole}
 use Rattle.calls.specs.Calls.{Call, load, begin, advance, answer, abandon, write_back, rewrite, check}
-use Rattle.calls.specs.declared.Verdict.{Verdict}
-use Rattle.calls.specs.declared.Verdict.TheVariants.{Done, Refused}
+use Rattle.calls.specs.Calls.{Verdict}
 use Rattle.calls.proofs.Permits.{rewrites_second}
 use Rattle.runner.specs.declared.Runner.{Runner}
 use Rattle.runner.specs.State.{flowchart_of, run_in, standing_of, runner_of, idle, ended_with, dropped, flow_in, ran, resumed}
@@ -46,7 +45,7 @@ unfolding decode meaning
 past_halts edition other b e = rw e refl
 
 -- The flows of the two charts are one.
-module _ (f : List ℕ) (h : Header) (e : check_file f ≡ checked.Accepted h) (all : AllTaken h (table_of f)) where
+module _ (f : List ℕ) (h : Header) (e : check_file f ≡ Ok h) (all : AllTaken h (table_of f)) where
   does_alike : (p : ℕ) → p < 204 → meaning (other_than h.edition) (decode (box_of (table_of f) p)) ≡ meaning h.edition (decode (box_of (table_of f) p))
   does_alike p l = on (dec_lt p h.boxes)
     where
@@ -111,12 +110,12 @@ module _ (edition : ℕ) (r : Runner) (same : flow edition r.table ≡ flow_in r
   abbrev Alike : Verdict → Call → Type 0
   Alike v c = ((outcome_by v c (recast edition r)).told ≡ (outcome_by v c r).told) × SameButEdition (outcome_by v c r).next (outcome_by v c (recast edition r)).next
 
-  advance_alike : (m : ℕ) → Alike Done (advance m)
+  advance_alike : (m : ℕ) → Alike (Ok tt) (advance m)
   unfolding outcome_by says after
   advance_alike m =
       (rw (ran_alike m) refl, rw (ran_alike m) (resumed_same (ran m r)))
 
-  done_alike : (c : Call) → check c (standing_of r) ≡ Done → TellsNoEdition c r → Alike Done c
+  done_alike : (c : Call) → check c (standing_of r) ≡ Ok tt → TellsNoEdition c r → Alike (Ok tt) c
   unfolding outcome_by says after dropped
   done_alike (load file) a hides = (refl, one)
   done_alike (begin mode inputs allowed limit) a hides = (refl, two edition same)
@@ -126,7 +125,7 @@ module _ (edition : ℕ) (r : Runner) (same : flow edition r.table ≡ flow_in r
   done_alike (write_back buffer) a hides = absurd (hides a)
   done_alike rewrite a hides = absurd (false≢true (sym (rewrites_second (standing_of r) a).1 ∙ hides))
 
-  refused_alike : (x : Refusal) (c : Call) → Alike (Refused x) c
+  refused_alike : (x : Refusal) (c : Call) → Alike (Err x) c
   unfolding outcome_by
   refused_alike x c = (refl, two edition same)
 
@@ -135,8 +134,8 @@ module _ (edition : ℕ) (r : Runner) (same : flow edition r.table ≡ flow_in r
   call_alike c hides = rw (check_alike c edition r hides) (on (check c (standing_of r)) refl)
     where
       on : (v : Verdict) → check c (standing_of r) ≡ v → Alike v c
-      on Done a = done_alike c a hides
-      on (Refused x) a = refused_alike x c
+      on (Ok _) a = done_alike c a hides
+      on (Err x) a = refused_alike x c
 
 tells_same : (cs : List Call) {r r' : Runner} → SameButEdition r r' → Along TellsNoEdition cs r → tells cs r' ≡ tells cs r
 unfolding tells

@@ -1,6 +1,7 @@
 -- The converted file. A file converts where load accepts it and the other edition takes all its
 -- boxes, and then to the file of its chart in the other edition; that chart obeys the rules, so
 -- load accepts its file, and the edition that it came from takes its boxes. Assumes nothing.
+use Rattle.std.specs.Prelude.{Ok, Err}
 use Prim.Native.Nat.{ℕ, ◌≤◌, ◌<◌}
 use mathlib.Core.Path.{◌≡◌, refl, ap, sym, ◌∙◌}
 use mathlib.Core.List.{List, ◌++◌}
@@ -15,13 +16,11 @@ use Rattle.block.specs.Refusing.{refusal}
 use Rattle.format.specs.File.{header_of, is_edition, check_file}
 use Rattle.format.specs.declared.Header.{Header}
 use Rattle.block.specs.declared.Refusal.{Refusal}
-use Rattle.format.specs.declared.Checked.{Checked}
-use Rattle.format.specs.declared.Checked.TheVariants.{Accepted, Refused}
+use Rattle.format.specs.File.{Checked}
 use Rattle.format.proofs.Passes.{passes, refused_at_most_six}
 use Rattle.format.proofs.Search.{all_hold, none_fails, first_is, first_says}
 use Rattle.chart.specs.Chart.{table_of, file_of}
 use Rattle.chart.specs.WriteBack.{file_length, with_file}
-use Rattle.chart.specs.declared.Written.TheVariants as written
 use Rattle.chart_claims.specs.Claims.{Ruled}
 use Rattle.chart_claims.proofs.RoundTrip.{file_again, file_has_length}
 use Rattle.chart_claims.proofs.Rules.{obeys_rules}
@@ -45,7 +44,7 @@ unfolding convert
 by_answer f buffer e = ap (λ (c : Checked). conversion_by c (table_of f) buffer) e
 
 -- A file whose boxes are all taken.
-module _ (f : List ℕ) (h : Header) (e : check_file f ≡ Accepted h) (all : AllTaken h (table_of f)) where
+module _ (f : List ℕ) (h : Header) (e : check_file f ≡ Ok h) (all : AllTaken h (table_of f)) where
   none : h.boxes ≤ untaken h (table_of f)
   none = omega (arith, none_fails (takes_box (other_than h.edition) (table_of f)) h.boxes all)
 
@@ -63,7 +62,7 @@ module _ (f : List ℕ) (h : Header) (e : check_file f ≡ Accepted h) (all : Al
   other_long : length (other_file f h) ≡ file_length h
   other_long = file_has_length (in_other h) (table_of f) rules.ranged rules.long
 
-  other_accepted : check_file (other_file f h) ≡ Accepted (in_other h)
+  other_accepted : check_file (other_file f h) ≡ Ok (in_other h)
   other_accepted = (ruled_is_loaded (in_other h) (table_of f) rules).0
 
   other_table : table_of (other_file f h) ≡ table_of f
@@ -71,13 +70,13 @@ module _ (f : List ℕ) (h : Header) (e : check_file f ≡ Accepted h) (all : Al
 
   -- What the converter does: into a buffer with room, and into a shorter one.
   written_into : (buffer : List ℕ) → length (other_file f h) ≤ length buffer
-      → convert f buffer ≡ conversion (written.Length (length (other_file f h))) (other_file f h ++ drop (length (other_file f h)) buffer)
+      → convert f buffer ≡ conversion (Ok (length (other_file f h))) (other_file f h ++ drop (length (other_file f h)) buffer)
   unfolding conversion_by with_file
   written_into buffer room =
       by_answer f buffer (sym (tells_header h (table_of f) (length buffer) none (omega (arith, other_long)) ∙ after_chart f (table_of f) (length buffer) e))
-      ∙ ap (λ (n : ℕ). conversion (written.Length n) (other_file f h ++ drop n buffer)) (sym other_long)
+      ∙ ap (λ (n : ℕ). conversion (Ok n) (other_file f h ++ drop n buffer)) (sym other_long)
 
-  short_of : (buffer : List ℕ) → length buffer < length (other_file f h) → convert f buffer ≡ conversion (written.Refused (refusal 12 0)) buffer
+  short_of : (buffer : List ℕ) → length buffer < length (other_file f h) → convert f buffer ≡ conversion (Err (refusal 12 0)) buffer
   unfolding conversion_by
   short_of buffer short =
       by_answer f buffer (sym (tells_room h (table_of f) (length buffer) none (omega (arith, other_long)) ∙ after_chart f (table_of f) (length buffer) e))
@@ -110,7 +109,7 @@ module _ (f : List ℕ) (h : Header) (e : check_file f ≡ Accepted h) (all : Al
 
 -- What a file is that converts, and to what.
 pub record Made (f g : List ℕ) : Type 0 where
-  pub checks : check_file f ≡ Accepted (header_of f)
+  pub checks : check_file f ≡ Ok (header_of f)
   pub all : AllTaken (header_of f) (table_of f)
   pub file : g ≡ other_file f (header_of f)
 
@@ -119,26 +118,26 @@ unfolding conversion_by with_file
 made f g c = on (check_after (check_file f) (table_of f) (length c.buffer)) refl
   where
     on : (x : Checked) → check_after (check_file f) (table_of f) (length c.buffer) ≡ x → Made f g
-    on (Accepted h') e =
+    on (Ok h') e =
         let a = after_accepted f (table_of f) (length c.buffer) e in
         let h = a.0 in
         let facts = chart_accepted h (table_of f) (length c.buffer) a.2 in
         let all : AllTaken h (table_of f) = all_hold (takes_box (other_than h.edition) (table_of f)) h.boxes facts.0 in
         let long = other_long f h a.1 all in
-        let does = by_answer f c.buffer (e ∙ ap Accepted facts.2) in
-        let size : written.Length (file_length h) ≡ written.Length (length g) = sym (ap (λ (z : Conversion). z.told) does) ∙ c.told in
+        let does = by_answer f c.buffer (e ∙ ap Ok facts.2) in
+        let size : Ok (file_length h) ≡ Ok (length g) = sym (ap (λ (z : Conversion). z.told) does) ∙ c.told in
         let same : length (other_file f h) ≡ length g = cc (long, size) in
         let front = sym c.front ∙ ap (λ (z : Conversion). take (length g) z.buffer) does ∙ take_at (other_file f h) (drop (file_length h) c.buffer) (length g) same in
         let is = (passes f h a.1).header in
         record { checks = rw is at a.1; all = rw is at all; file = rw is at front }
-    on (Refused x) e =
+    on (Err x) e =
         let does = by_answer f c.buffer e in
-        let two : written.Refused x ≡ written.Length (length g) = sym (ap (λ (z : Conversion). z.told) does) ∙ c.told in
+        let two : Err x ≡ Ok (length g) = sym (ap (λ (z : Conversion). z.told) does) ∙ c.told in
         clash cc
 
 -- The header and the table of the file that it converts to.
 module _ (f g : List ℕ) (m : Made f g) where
-  accepts : check_file g ≡ Accepted (in_other (header_of f))
+  accepts : check_file g ≡ Ok (in_other (header_of f))
   accepts = ap check_file m.file ∙ other_accepted f (header_of f) m.checks m.all
 
   pub made_header : header_of g ≡ in_other (header_of f)
@@ -147,8 +146,8 @@ module _ (f g : List ℕ) (m : Made f g) where
   pub made_table : table_of g ≡ table_of f
   made_table = ap table_of m.file ∙ other_table f (header_of f) m.checks m.all
 
-  pub made_accepted : check_file g ≡ Accepted (header_of g)
-  made_accepted = accepts ∙ ap Accepted (sym made_header)
+  pub made_accepted : check_file g ≡ Ok (header_of g)
+  made_accepted = accepts ∙ ap Ok (sym made_header)
 
 pub converts_to_other : ConvertsToOther
 converts_to_other f g c =
@@ -177,11 +176,11 @@ converts_back f g c =
     let there = makes (other_file f h) (in_other h) (other_accepted f h m.checks m.all) (back f h m.checks m.all) in
     rw m.file (rw (again f h m.checks m.all) at there)
 
-refused_once : {x y : Refusal} → written.Refused x ≡ written.Refused y → x ≡ y
+refused_once : {x y : Refusal} → Err x ≡ Err y → x ≡ y
 refused_once e = cc
 
 -- What is answered of a file that load accepts.
-module _ (f : List ℕ) (e : check_file f ≡ Accepted (header_of f)) where
+module _ (f : List ℕ) (e : check_file f ≡ Ok (header_of f)) where
   abbrev h : Header
   h = header_of f
 
@@ -210,25 +209,25 @@ module _ (f : List ℕ) (e : check_file f ≡ Accepted (header_of f)) where
     answered : {c : Checked} → c ≡ check_chart h (table_of f) (length buffer) → (convert f buffer).told ≡ (conversion_by c (table_of f) buffer).told
     answered q = ap (λ (z : Conversion). z.told) (by_answer f buffer (sym (q ∙ after_chart f (table_of f) (length buffer) e)))
 
-    told_untaken : untaken h (table_of f) < h.boxes → (convert f buffer).told ≡ written.Refused (refusal 14 (untaken h (table_of f)))
+    told_untaken : untaken h (table_of f) < h.boxes → (convert f buffer).told ≡ Err (refusal 14 (untaken h (table_of f)))
     unfolding conversion_by
     told_untaken l = answered (tells_untaken h (table_of f) (length buffer) l)
 
-    told_other : h.boxes ≤ untaken h (table_of f) → (p : ℕ) → (convert f buffer).told ≡ written.Refused (refusal 14 p) → ⊥
+    told_other : h.boxes ≤ untaken h (table_of f) → (p : ℕ) → (convert f buffer).told ≡ Err (refusal 14 p) → ⊥
     unfolding conversion_by
     told_other l p told = on (dec_lt (length buffer) (file_length h))
       where
         on : Dec (length buffer < file_length h) → ⊥
         on (yes short) =
-            let twelve : written.Refused (refusal 12 0) ≡ written.Refused (refusal 14 p) = sym (answered (tells_room h (table_of f) (length buffer) l short)) ∙ told in
+            let twelve : Err (refusal 12 0) ≡ Err (refusal 14 p) = sym (answered (tells_room h (table_of f) (length buffer) l short)) ∙ told in
             let number = ap (λ (x : Refusal). x.number) (refused_once twelve) in
             omega arith
         on (no room) =
-            let length : written.Length (file_length h) ≡ written.Refused (refusal 14 p) =
+            let length : Ok (file_length h) ≡ Err (refusal 14 p) =
             sym (answered (tells_header h (table_of f) (length buffer) l (omega arith))) ∙ told in
             clash cc
 
-    first_found : (p : ℕ) → (convert f buffer).told ≡ written.Refused (refusal 14 p) → FirstUntaken f p
+    first_found : (p : ℕ) → (convert f buffer).told ≡ Err (refusal 14 p) → FirstUntaken f p
     first_found p told = on (dec_lt (untaken h (table_of f)) h.boxes)
       where
         on : Dec (untaken h (table_of f) < h.boxes) → FirstUntaken f p
@@ -238,23 +237,23 @@ module _ (f : List ℕ) (e : check_file f ≡ Accepted (header_of f)) where
             first p is (omega arith)
         on (no l) = absurd (told_other (omega arith) p told)
 
-    found_first : (p : ℕ) → FirstUntaken f p → (convert f buffer).told ≡ written.Refused (refusal 14 p)
+    found_first : (p : ℕ) → FirstUntaken f p → (convert f buffer).told ≡ Err (refusal 14 p)
     found_first p u =
         let is : untaken h (table_of f) ≡ p = first_is test h.boxes p u.below (λ q l. holds q (u.none q l)) (fails p u.here) in
         let l : untaken h (table_of f) < h.boxes = (let below = u.below in omega arith) in
-        told_untaken l ∙ ap (λ (q : ℕ). written.Refused (refusal 14 q)) is
+        told_untaken l ∙ ap (λ (q : ℕ). Err (refusal 14 q)) is
 
 pub refused_as_loaded : RefusedAsLoaded
 unfolding conversion_by
 refused_as_loaded f buffer x e = ap (λ (z : Conversion). z.told) (by_answer f buffer (sym (after_refused f (table_of f) (length buffer) e)))
 
 -- Load's checks refuse by 1 to 6, so 14 is told of a file that they accept.
-accepts_where : (f buffer : List ℕ) (p : ℕ) → (convert f buffer).told ≡ written.Refused (refusal 14 p) → check_file f ≡ Accepted (header_of f)
+accepts_where : (f buffer : List ℕ) (p : ℕ) → (convert f buffer).told ≡ Err (refusal 14 p) → check_file f ≡ Ok (header_of f)
 accepts_where f buffer p told = on (check_file f) refl
   where
-    on : (c : Checked) → check_file f ≡ c → check_file f ≡ Accepted (header_of f)
-    on (Accepted h) e = e ∙ ap Accepted (passes f h e).header
-    on (Refused x) e =
+    on : (c : Checked) → check_file f ≡ c → check_file f ≡ Ok (header_of f)
+    on (Ok h) e = e ∙ ap Ok (passes f h e).header
+    on (Err x) e =
         let number = ap (λ (y : Refusal). y.number) (refused_once (sym (refused_as_loaded f buffer x e) ∙ told)) in
         absurd (let few = refused_at_most_six f x e in omega arith)
 
@@ -270,6 +269,6 @@ pub refusal_leaves_buffer : RefusalLeavesBuffer
 unfolding convert conversion_by
 refusal_leaves_buffer f buffer x e = on (check_after (check_file f) (table_of f) (length buffer)) e
   where
-    on : (c : Checked) → (conversion_by c (table_of f) buffer).told ≡ written.Refused x → (conversion_by c (table_of f) buffer).buffer ≡ buffer
-    on (Accepted h) q = clash cc
-    on (Refused y) q = refl
+    on : (c : Checked) → (conversion_by c (table_of f) buffer).told ≡ Err x → (conversion_by c (table_of f) buffer).buffer ≡ buffer
+    on (Ok h) q = clash cc
+    on (Err y) q = refl

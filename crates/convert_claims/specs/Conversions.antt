@@ -1,4 +1,5 @@
 -- Claims about the converter (02, f).
+use Rattle.std.specs.Prelude.{Ok, Err}
 use Rattle.std.specs.Prelude.{ℕ, ◌≤◌, ◌<◌, ◌≡◌, List, ◌∷◌, ◌++◌, ◌⊎◌, true, false, length, take, drop}
 use Rattle.boxes.specs.Bytes.{at, box_of}
 use Rattle.boxes.specs.Box.{has_kind, well_formed}
@@ -6,9 +7,7 @@ use Rattle.block.specs.Refusing.{refusal}
 use Rattle.format.specs.File.{header_of, is_edition, check_file}
 use Rattle.format.specs.declared.Header.{Header}
 use Rattle.block.specs.declared.Refusal.{Refusal}
-use Rattle.format.specs.declared.Checked.TheVariants as checked
 use Rattle.chart.specs.Chart.{table_of, chart_of}
-use Rattle.chart.specs.declared.Written.TheVariants.{Length, Refused}
 use Rattle.convert.specs.Convert.{conversion, convert}
 use Rattle.marks.specs.Marks.{Mode}
 use Rattle.calls.specs.Calls.{Call, load, begin, advance, answer, abandon, write_back, rewrite}
@@ -22,13 +21,13 @@ use Rattle.call_claims.specs.Lists.{Accepted, tells, Along}
 -- it at the buffer's front.
 pub record ConvertsTo (f g : List ℕ) : Type 0 where
   pub buffer : List ℕ
-  pub told : (convert f buffer).told ≡ Length (length g)
+  pub told : (convert f buffer).told ≡ Ok (length g)
   pub front : take (length g) (convert f buffer).buffer ≡ g
 
 -- "the other edition's file, with the same boxes in the same places": load accepts both files.
 pub record OtherEdition (f g : List ℕ) : Type 0 where
-  pub accepted : check_file f ≡ checked.Accepted (header_of f)
-  pub accepted' : check_file g ≡ checked.Accepted (header_of g)
+  pub accepted : check_file f ≡ Ok (header_of f)
+  pub accepted' : check_file g ≡ Ok (header_of g)
   pub editions : (((header_of f).edition ≡ 1) × ((header_of g).edition ≡ 2)) ⊎ (((header_of f).edition ≡ 2) × ((header_of g).edition ≡ 1))
   pub inputs : (header_of g).inputs ≡ (header_of f).inputs
   pub boxes : (header_of g).boxes ≡ (header_of f).boxes
@@ -45,8 +44,8 @@ abbrev pub ConvertsIntoAny : Type 0
 ConvertsIntoAny =
     (f g buffer : List ℕ)
     → ConvertsTo f g
-    → (length g ≤ length buffer → convert f buffer ≡ conversion (Length (length g)) (g ++ drop (length g) buffer))
-    × (length buffer < length g → convert f buffer ≡ conversion (Refused (refusal 12 0)) buffer)
+    → (length g ≤ length buffer → convert f buffer ≡ conversion (Ok (length g)) (g ++ drop (length g) buffer))
+    × (length buffer < length g → convert f buffer ≡ conversion (Err (refusal 12 0)) buffer)
 
 -- "Converting back gives the original file."
 abbrev pub ConvertsBack : Type 0
@@ -109,10 +108,10 @@ pub record FirstUntaken (f : List ℕ) (p : ℕ) : Type 0 where
 -- A file that load accepts is refused by 14 exactly where it has such a box, whatever the buffer,
 -- and the detail is the first; no other file is, and a file that has none converts.
 pub record Refuses (f : List ℕ) : Type 0 where
-  pub only : (buffer : List ℕ) (p : ℕ) → (convert f buffer).told ≡ Refused (refusal 14 p) → (check_file f ≡ checked.Accepted (header_of f)) × FirstUntaken f p
-  pub where_first : check_file f ≡ checked.Accepted (header_of f) → (buffer : List ℕ) (p : ℕ) → FirstUntaken f p → (convert f buffer).told ≡ Refused (refusal 14 p)
+  pub only : (buffer : List ℕ) (p : ℕ) → (convert f buffer).told ≡ Err (refusal 14 p) → (check_file f ≡ Ok (header_of f)) × FirstUntaken f p
+  pub where_first : check_file f ≡ Ok (header_of f) → (buffer : List ℕ) (p : ℕ) → FirstUntaken f p → (convert f buffer).told ≡ Err (refusal 14 p)
   pub else :
-      check_file f ≡ checked.Accepted (header_of f)
+      check_file f ≡ Ok (header_of f)
       → ((p : ℕ) → p < (header_of f).boxes → Untaken (header_of f) (box_of (table_of f) p) → ⊥)
       → (g : List ℕ) × ConvertsTo f g
 
@@ -130,8 +129,8 @@ KindsOfBoxes =
 
 -- "01's load checks 1 to 6 come first."
 abbrev pub RefusedAsLoaded : Type 0
-RefusedAsLoaded = (f buffer : List ℕ) (x : Refusal) → check_file f ≡ checked.Refused x → (convert f buffer).told ≡ Refused x
+RefusedAsLoaded = (f buffer : List ℕ) (x : Refusal) → check_file f ≡ Err x → (convert f buffer).told ≡ Err x
 
 -- A refusal changes no byte of the buffer.
 abbrev pub RefusalLeavesBuffer : Type 0
-RefusalLeavesBuffer = (f buffer : List ℕ) (x : Refusal) → (convert f buffer).told ≡ Refused x → (convert f buffer).buffer ≡ buffer
+RefusalLeavesBuffer = (f buffer : List ℕ) (x : Refusal) → (convert f buffer).told ≡ Err x → (convert f buffer).buffer ≡ buffer

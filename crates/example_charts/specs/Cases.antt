@@ -1,11 +1,11 @@
 -- A case of the tables, what the definitions give for it, and what they are to give.
+use Rattle.std.specs.Prelude.{Ok, Err}
 use Rattle.std.specs.Prelude.{ℕ, ◌≡◌, List, [], ◌∷◌, ◌++◌, map, length, replicate}
 use Rattle.block.specs.Block.{checksum}
 use Rattle.block.specs.Refusing.{refusal}
 use Rattle.format.specs.File.{header_of, check_file}
-use Rattle.format.specs.declared.Checked.{Checked}
-use Rattle.format.specs.declared.Checked.TheVariants.{Accepted, Refused}
-use Rattle.chart.specs.declared.Written.{Written}
+use Rattle.format.specs.File.{Checked}
+use Rattle.chart.specs.WriteBack.{Written}
 use Rattle.convert.specs.Convert.{Conversion, conversion, convert}
 use Rattle.operations.specs.Operation.{read_by, value_of}
 use Rattle.marks.specs.Marks.{Mode, union, by_mode, set_by}
@@ -91,10 +91,10 @@ expected (sets masks before read set) = number set
 
 -- What load's checks answer: a header, or a refusal.
 abbrev pub accepted : (edition k n first : ℕ) → Checked
-accepted edition k n first = Accepted (record { edition = edition; inputs = k; boxes = n; first = first })
+accepted edition k n first = Ok (record { edition = edition; inputs = k; boxes = n; first = first })
 
 abbrev pub refused : ℕ → ℕ → Checked
-refused n detail = Refused (refusal n detail)
+refused n detail = Err (refusal n detail)
 
 -- A table of so many cases, each of which gives what is expected.
 abbrev pub Table : ℕ → List Case → Type 0

@@ -1,8 +1,8 @@
 -- The converter (02, f), in one table: charts of both editions, buffers too short, as long as the
 -- file and longer, and refusals by 14, by 12 and by load's checks 2 and 6.
+use Rattle.std.specs.Prelude.{Ok, Err}
 use Rattle.std.specs.Prelude.{ℕ, List, [], ◌∷◌, ◌++◌, replicate, set}
 use Rattle.block.specs.Refusing.{refusal}
-use Rattle.chart.specs.declared.Written.TheVariants.{Length, Refused}
 use Rattle.example_charts.specs.Charts.{block, front, assign, decide, halt, halts, chart_a, chart_a_two, chart_d, head_e, sum_two, zeros_one, zeros_two, three_one, three_two}
 use Rattle.example_charts.specs.Cases.{Case, converts, Table}
 
@@ -40,16 +40,16 @@ six_first = head_e ++ block (assign 31 3 0 0 1 0 ++ (4 ∷ [])) 122 0
 
 -- A file that is written into as many bytes; and one that is refused, with the buffer as it was.
 abbrev written : (file other : List ℕ) → (bytes : ℕ) → Case
-written file other bytes = converts file (replicate bytes 9) (Length bytes) other
+written file other bytes = converts file (replicate bytes 9) (Ok bytes) other
 
 abbrev refused : (file buffer : List ℕ) → (number detail : ℕ) → Case
-refused file buffer number detail = converts file buffer (Refused (refusal number detail)) buffer
+refused file buffer number detail = converts file buffer (Err (refusal number detail)) buffer
 
 unfoldable pub conversion_cases : List Case
 conversion_cases =
     -- chart A to edition 2, and back into a longer buffer, whose other bytes stay
     written chart_a chart_a_two 1024
-    ∷ converts chart_a_two (replicate 1024 9 ++ (5 ∷ 6 ∷ 7 ∷ [])) (Length 1024) (chart_a ++ (5 ∷ 6 ∷ 7 ∷ []))
+    ∷ converts chart_a_two (replicate 1024 9 ++ (5 ∷ 6 ∷ 7 ∷ [])) (Ok 1024) (chart_a ++ (5 ∷ 6 ∷ 7 ∷ []))
     -- 12: a byte short
     ∷ refused chart_a (replicate 1023 9) 12 0
     -- 14: operation 3, before 12; operation 2; operation 11 in both editions; the last box, which

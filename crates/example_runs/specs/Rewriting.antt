@@ -1,9 +1,9 @@
 -- Kind 4 and the rewriter (02, g), in one table: what files with kind 4 are answered, what their
 -- boxes read and give, which decisions are replaced and which stay, and what runs come to before
 -- and after.
+use Rattle.std.specs.Prelude.{Ok, Err}
 use Rattle.std.specs.Prelude.{ℕ, List, [], ◌∷◌, ◌++◌}
 use Rattle.block.specs.Refusing.{refusal}
-use Rattle.chart.specs.declared.Written.TheVariants.{Refused}
 use Rattle.marks.specs.Marks.{bare, surveillance, high_water}
 use Rattle.machine.specs.Run.{valued, notice, spent}
 use Rattle.example_charts.specs.Charts.{block, front, assign, decide, choice, halt, with_halt, chart_choice, one_input, chart_fork, chart_fork_new, between, turn, chart_turns, chart_never}
@@ -54,7 +54,7 @@ rewriting_cases =
     ∷ answers (with_halt (choice 31 0 0 1 2 2 3) 153) (refused 6 0)
     ∷ answers (with_halt (4 ∷ 31 ∷ 0 ∷ 0 ∷ 1 ∷ 1 ∷ 2 ∷ 3 ∷ 0 ∷ 1 ∷ []) 157) (refused 6 0)
     ∷ returns chart_choice
-    ∷ converts chart_choice [] (Refused (refusal 14 0)) []
+    ∷ converts chart_choice [] (Err (refusal 14 0)) []
     -- it copies by the comparison, and reads all four whichever is copied
     ∷ runs chart_choice bare inputs 0 0 (valued 7) 2
     ∷ runs chart_choice bare (5 ∷ 6 ∷ 7 ∷ 9 ∷ []) 0 0 (valued 9) 2

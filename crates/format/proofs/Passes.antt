@@ -1,5 +1,6 @@
 -- What it says of a file that its checks pass: one record of facts, which load, show a box, the
 -- round trip and the converter cite. And that no refusal has a number above 6. Assumes nothing.
+use Rattle.std.specs.Prelude.{Ok, Err}
 use Prim.Native.Nat.{ℕ, ◌*◌, ◌-◌, ◌≤◌, ◌<◌}
 use mathlib.Core.Path.{◌≡◌, refl, ap}
 use mathlib.Core.List.{List, [], ◌∷◌}
@@ -14,8 +15,7 @@ use Rattle.block.specs.declared.Refusal.{Refusal}
 use Rattle.format.specs.Search.{first_failing}
 use Rattle.format.specs.File.{blocks_of, blocks_for, header_of, is_edition, in_range, length_rule, check_rule, letters_rule, header_rule, place_rule, refuse_if, check_file}
 use Rattle.format.specs.declared.Header.{Header}
-use Rattle.format.specs.declared.Checked.{Checked}
-use Rattle.format.specs.declared.Checked.TheVariants as checked
+use Rattle.format.specs.File.{Checked}
 use Rattle.boxes.proofs.Bools.{and_left, and_right, every}
 use Rattle.format.proofs.Search.{all_hold}
 use Rattle.format.proofs.Places.{blocks_of_lem}
@@ -44,24 +44,24 @@ pub record Passes (f : List ℕ) (h : Header) : Type 0 where
   pub places : (p : ℕ) → p < 51 * (blocks_for h.boxes - 1) → place_rule f h p ≡ true
 
 -- A check that a file passed did not refuse it.
-pub passed : (broken : Bool) {otherwise : Checked} (number detail : ℕ) {h : Header} → refuse_if broken number detail otherwise ≡ checked.Accepted h
-    → (broken ≡ false) × (otherwise ≡ checked.Accepted h)
+pub passed : (broken : Bool) {otherwise : Checked} (number detail : ℕ) {h : Header} → refuse_if broken number detail otherwise ≡ Ok h
+    → (broken ≡ false) × (otherwise ≡ Ok h)
 passed true number detail e = let z : ◌≡◌ {A = ℕ} 0 1 = cc in absurd (omega arith)
 passed false number detail e = (refl, e)
 
 -- No refusal has a number above 6.
-six_at_most : (broken : Bool) {otherwise : Checked} (number detail : ℕ) (r : Refusal) → number ≤ 6 → refuse_if broken number detail otherwise ≡ checked.Refused r
-    → (otherwise ≡ checked.Refused r → r.number ≤ 6) → r.number ≤ 6
+six_at_most : (broken : Bool) {otherwise : Checked} (number detail : ℕ) (r : Refusal) → number ≤ 6 → refuse_if broken number detail otherwise ≡ Err r
+    → (otherwise ≡ Err r → r.number ≤ 6) → r.number ≤ 6
 six_at_most true number detail r l e rest =
     let same : refusal number detail ≡ r = cc in
     let is = ap (λ (z : Refusal). z.number) same in
     omega arith
 six_at_most false number detail r l e rest = rest e
 
-accepts_none : {h : Header} {r : Refusal} → checked.Accepted h ≡ checked.Refused r → r.number ≤ 6
+accepts_none : {h : Header} {r : Refusal} → Ok h ≡ Err r → r.number ≤ 6
 accepts_none e = let z : ◌≡◌ {A = ℕ} 0 1 = cc in absurd (omega arith)
 
-pub refused_at_most_six : (f : List ℕ) (r : Refusal) → check_file f ≡ checked.Refused r → r.number ≤ 6
+pub refused_at_most_six : (f : List ℕ) (r : Refusal) → check_file f ≡ Err r → r.number ≤ 6
 unfolding check_file
 refused_at_most_six f r e =
     let blocks = blocks_of f in
@@ -87,7 +87,7 @@ letters_of f e =
       r.1.1.1.1.0,
     )
 
-pub passes : (f : List ℕ) (h : Header) → check_file f ≡ checked.Accepted h → Passes f h
+pub passes : (f : List ℕ) (h : Header) → check_file f ≡ Ok h → Passes f h
 unfolding check_file header_rule
 passes f h e =
     let blocks = blocks_of f in

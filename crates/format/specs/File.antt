@@ -1,14 +1,13 @@
 -- The chart file as load's input checks 1 to 6 see it. A rule is true of a file that keeps it; the
 -- refusal that it stands for is quoted.
-use Rattle.std.specs.Prelude.{ℕ, ◌+◌, ◌*◌, ◌-◌, ◌/◌, ◌%◌, List, Bool, cond, not, ◌&&◌, ◌||◌, eqb, ltb, leb, length}
+use Rattle.std.specs.Prelude.{ℕ, ◌+◌, ◌*◌, ◌-◌, ◌/◌, ◌%◌, List, Bool, Result, Ok, Err, cond, not, ◌&&◌, ◌||◌, eqb, ltb, leb, length}
 use Rattle.boxes.specs.Bytes.{at, part, all_zero}
 use Rattle.format.specs.Search.{first_failing}
 use Rattle.boxes.specs.Box.{well_formed}
 use Rattle.block.specs.Block.{is_sealed}
 use Rattle.block.specs.Refusing.{refuse_into}
+use Rattle.block.specs.declared.Refusal.{Refusal}
 use Rattle.format.specs.declared.Header.{Header}
-use Rattle.format.specs.declared.Checked.{Checked}
-use Rattle.format.specs.declared.Checked.TheVariants.{Accepted, Refused}
 
 -- "Blocks of 512 bytes": how many a file has, and block j of it.
 abbrev pub blocks_of : List ℕ → ℕ
@@ -73,9 +72,13 @@ box_rule h b = well_formed h.edition h.inputs h.boxes b
 unfoldable pub place_rule : List ℕ → Header → ℕ → Bool
 place_rule f h p = cond (ltb p h.boxes) (box_rule h (place_of f p)) (all_zero (place_of f p))
 
+-- What load's input checks answer: the header, or a refusal.
+abbrev pub Checked : Type 0
+Checked = Result Header Refusal
+
 -- A rule of a chart's file, which refuses it by a number and a detail where it is broken.
 abbrev pub refuse_if : (broken : Bool) (number detail : ℕ) → Checked → Checked
-refuse_if broken number detail otherwise = refuse_into Refused broken number detail otherwise
+refuse_if broken number detail otherwise = refuse_into Err broken number detail otherwise
 
 -- Load's input checks, "1 to 6 in order": "2: .. Detail: the first such block." "5: the length
 -- doesn't fit n." "6: .. Detail: the first such place."
@@ -91,4 +94,4 @@ check_file f =
     (refuse_if (not (header_rule f)) 4 0
     (refuse_if (not (eqb blocks (blocks_for (header_of f).boxes))) 5 0
     (refuse_if (ltb broken places) 6 broken
-    (Accepted (header_of f)))))))
+    (Ok (header_of f)))))))

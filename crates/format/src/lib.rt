@@ -2,32 +2,18 @@
 #![tactic(auto)]
 
 ghost use Rattle.std.specs.Prelude.{◌≡◌, ℕ, ◌+◌, ◌*◌, ◌<◌, ◌≤◌, length};
-ghost use Rattle.block.specs.Refusing.{refusal};
 ghost use Rattle.format.specs.Search.{first_failing};
 ghost use Rattle.format.specs.File.{addend, place_start, blocks_for, length_rule, check_rule, letters_rule, header_of, in_range, header_rule, place_rule, check_file};
 
-use block::Refusal;
+use block::{Reason, Refusal};
 
 // Block 0's numbers of a chart: the edition, the number of inputs, of boxes, and the first box run.
-#[derive(Clone, Copy)]
+#[derive(Clone, Copy, Debug, PartialEq, Eq)]
 pub struct Header {
     pub edition: u8,
     pub inputs: u8,
     pub boxes: u8,
     pub first: u8,
-}
-
-// What load's input checks answer.
-#[derive(Clone, Copy)]
-pub enum Checked {
-    Accepted(Header),
-    Refused(Refusal),
-}
-
-fn refused_by(number: u32, detail: u32) -> Checked
-    ensures { result ≡ Checked.Refused (refusal number detail) }
-{
-    Checked::Refused(Refusal { number, detail })
 }
 
 fn length_holds(len: usize) -> bool
@@ -149,32 +135,32 @@ fn first_broken(file: &[u8], header: Header, places: usize) -> usize
 }
 
 // Load's input checks 1 to 6, in order, of any bytes.
-pub fn check_file(file: &[u8]) -> Checked
+pub fn check_file(file: &[u8]) -> Result<Header, Refusal>
     ensures { result ≡ check_file file.now }
 {
     let len = file.len();
     if !length_holds(len) {
-        return refused_by(1, 0);
+        return Err(Reason::Length.into());
     }
     let blocks = len / 512;
     let header = header_of(file);
     let wrong = first_wrong(file, header, blocks);
     if wrong < blocks {
-        return refused_by(2, wrong as u32);
+        return Err(Reason::Check(wrong as u32).into());
     }
     if !letters_hold(file) {
-        return refused_by(3, 0);
+        return Err(Reason::Letters.into());
     }
     if !header_holds(file) {
-        return refused_by(4, 0);
+        return Err(Reason::Header.into());
     }
     if blocks != blocks_for(header.boxes) {
-        return refused_by(5, 0);
+        return Err(Reason::Blocks.into());
     }
     let places = 51 * (blocks - 1);
     let broken = first_broken(file, header, places);
     if broken < places {
-        return refused_by(6, broken as u32);
+        return Err(Reason::Place(broken as u32).into());
     }
-    Checked::Accepted(header)
+    Ok(header)
 }

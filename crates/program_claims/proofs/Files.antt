@@ -1,5 +1,6 @@
 -- A chart file that is too long is refused by its length alone, and so is its beginning. Assumes
 -- nothing.
+use Rattle.std.specs.Prelude.{Ok, Err}
 use Prim.Native.Nat.{ℕ, ◌<◌}
 use mathlib.Core.Path.{◌≡◌, refl, ap, sym, ◌∙◌}
 use mathlib.Core.List.{List, []}
@@ -10,14 +11,13 @@ use lib.Seq.{take_all}
 use borrow.Author.Tests.{ltb-true, ne_eqb}
 use Rattle.block.specs.Refusing.{refusal}
 use Rattle.format.specs.File.{check_file}
-use Rattle.format.specs.declared.Checked.TheVariants.{Refused}
 use Rattle.calls.specs.Calls.{file_verdict, check}
 use Rattle.runner.specs.State.{new_runner}
 use Rattle.runner.specs.Outcomes.{refused, outcome_by, call}
 use Rattle.reply.specs.Reply.{loading}
 use Rattle.program_claims.specs.SessionClaims.{FirstBytes}
 
-too_long : (file : List ℕ) → 2560 < length file → check_file file ≡ Refused (refusal 1 0)
+too_long : (file : List ℕ) → 2560 < length file → check_file file ≡ Err (refusal 1 0)
 unfolding check_file
 too_long file l =
     let n = length file in

@@ -1,5 +1,6 @@
 -- The claims about lines: an accepted one prints an ending, by `one_advance_ends`; and a begin
 -- starts one run on any runner that holds the chart. Assumes nothing.
+use Rattle.std.specs.Prelude.{Ok, Err}
 use Prim.Native.Nat.{◌-◌}
 use mathlib.Core.Path.{◌≡◌, refl, ap, ◌∙◌}
 use mathlib.Core.Bool.{false, cond}
@@ -8,8 +9,7 @@ use Rattle.boxes.specs.Bytes.{at, part}
 use Rattle.chart.specs.Chart.{Chart}
 use Rattle.begin.proofs.Begins.{effective_fits}
 use Rattle.calls.specs.Calls.{answer, check}
-use Rattle.calls.specs.declared.Verdict.{Verdict}
-use Rattle.calls.specs.declared.Verdict.TheVariants.{Done, Refused}
+use Rattle.calls.specs.Calls.{Verdict}
 use Rattle.line.specs.Parsing.{parse}
 use Rattle.line.specs.declared.parsing.Numbers.{Numbers}
 use Rattle.texts.specs.Printing.{refused_text}
@@ -34,10 +34,10 @@ module _ (r r' : Runner) (same : chart_in r ≡ chart_in r') (o : is_running r �
 
   answers_same : (v : Verdict) (ns : Numbers) → answered (outcome_by v (begin_of ns) r) ≡ answered (outcome_by v (begin_of ns) r')
   unfolding outcome_by answered after says is_accepted
-  answers_same Done ns =
+  answers_same (Ok _) ns =
       ap (λ (y : Runner). reply_text (call answer (run_out y)).told.reply)
       (starts_same (at ns.numbers 0) (part ns.numbers 3 (ns.count - 3)) (at ns.numbers 1) _ _ same refl)
-  answers_same (Refused x) ns = refl
+  answers_same (Err x) ns = refl
 
 pub lines_apart : LinesApart
 unfolding respond call

@@ -1,5 +1,6 @@
 -- What the calls' promises say of the texts: load's reply, and a begin, a run to its end and its
 -- answer. Assumes nothing.
+use Rattle.std.specs.Prelude.{Ok, Err}
 use Prim.Native.Nat.{ℕ}
 use mathlib.Core.Path.{◌≡◌, refl, ap, sym, ◌∙◌}
 use mathlib.Core.List.{List, []}
@@ -10,8 +11,7 @@ use Rattle.io.specs.Counts.{IsPrefixLen}
 use Rattle.texts.proofs.Fronts.{printed_counts}
 use Rattle.block.specs.declared.Refusal.{Refusal}
 use Rattle.calls.specs.Calls.{advance, answer}
-use Rattle.calls.specs.declared.Verdict.{Verdict}
-use Rattle.calls.specs.declared.Verdict.TheVariants as verdict
+use Rattle.calls.specs.Calls.{Verdict}
 use Rattle.line.specs.Parsing.{parse}
 use Rattle.texts.specs.Printing.{chart_text, refused_text, printed, printed_length}
 use Rattle.line.specs.declared.parsing.Numbers.{Numbers}
@@ -60,11 +60,11 @@ module _ (s : Runner) (number : ℕ) (line : List ℕ) (ns : Numbers) (p : ns �
   ill_formed z q = rw (sym p, eq-eqb ns.count 0 z) q
 
   module _ (z : ns.count ≡ 0 → ⊥) (x : Verdict) (next : Runner) (e : outcome (verdict_reply x) [] next ≡ call (begin_of ns) s) where
-    pub refuses : (y : Refusal) → x ≡ verdict.Refused y → Prints (refused_text y.number y.detail) r out after → Responds
+    pub refuses : (y : Refusal) → x ≡ Err y → Prints (refused_text y.number y.detail) r out after → Responds
     unfolding respond answered verdict_reply reply_text is_accepted
     refuses y w q = rw (sym p, ne_eqb ns.count 0 z, sym e, w) q
 
-    pub runs : x ≡ verdict.Done → (t : AdvanceTold) (last : Runner) → outcome (advance_reply t) [] last ≡ call (advance 65535) next
+    pub runs : x ≡ Ok tt → (t : AdvanceTold) (last : Runner) → outcome (advance_reply t) [] last ≡ call (advance 65535) next
         → (told : AnswerTold) → outcome (answer_reply told) [] last ≡ call answer last → Prints (reply_text (answer_reply told)) r out after → Responds
     unfolding respond answered verdict_reply reply_text is_accepted
     runs w t last f told g q =

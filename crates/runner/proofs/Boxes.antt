@@ -1,6 +1,7 @@
 -- The loop of advance: what the box at hand does, by the act that the code computed of it, how the
 -- run ends or goes on after it, and what advance leaves and tells where the loop is left. Assumes
 -- nothing.
+use Rattle.std.specs.Prelude.{Ok, Err}
 use Prim.Native.Nat.{ℕ, zero, suc, ◌+◌, ◌-◌, ◌*◌, ◌%◌, ◌^◌, ◌<◌, ◌≤◌}
 use mathlib.Core.Path.{◌≡◌, refl, ap, sym, ◌∙◌, subst}
 use mathlib.Core.Logic.{◌⊎◌, inl, inr, ⊎_elim}
@@ -33,8 +34,7 @@ use Rattle.machine.proofs.Acts.{SixteenInputs, sixteen_set, act_by_masks, Stores
 use Rattle.machine.proofs.Runs.{over_still, run_one, run_none, goes_spent, goes_further}
 use Rattle.calls.specs.Calls.{by_verdict, check}
 use Rattle.calls.specs.Calls as calls
-use Rattle.calls.specs.declared.Verdict.{Verdict}
-use Rattle.calls.specs.declared.Verdict.TheVariants.{Done, Refused}
+use Rattle.calls.specs.Calls.{Verdict}
 use Rattle.runner.specs.declared.Runner.{Runner}
 use Rattle.runner.specs.declared.AdvanceTold.{AdvanceTold}
 use Rattle.runner.specs.declared.Portion.{Portion}
@@ -286,7 +286,7 @@ module _ (m todo : ℕ) (r s next : Runner) (at end value named steps : ℕ) (to
     (came : CameTo (flow_in r) todo (run_in r) s at end value named steps)
     (stays : end ≡ 1 → next ≡ stands_at s at steps) (hidden : Bool) (hides-as : hidden ≡ hides (mode_of r.mode))
     (ends : (end ≡ 1 → ⊥) → next ≡ ends_with s (keeps hidden end steps named) value) where
-  came_running : check (calls.advance m) (standing_of r) ≡ Done → todo ≡ m
+  came_running : check (calls.advance m) (standing_of r) ≡ Ok tt → todo ≡ m
       → advance_reply told ≡ cond (eqb end 1) (outcomes.running steps) (outcomes.ended (cond hidden 0 steps))
       → outcome (advance_reply told) [] next ≡ call (calls.advance m) r
   unfolding progress_reply disclosed
@@ -304,7 +304,7 @@ module _ (m todo : ℕ) (r s next : Runner) (at end value named steps : ℕ) (to
       (ap (λ (x : Runner). ends_with x (keeps (hides mode) (state_of e) steps (named_in e)) (value_in e)) h ∙ disclosed_runner mode e steps r)))
       came
 
-  came_resting : (x : Refusal) → check (calls.advance m) (standing_of r) ≡ Refused x → todo ≡ 0 → advance_reply told ≡ outcomes.turned_away x
+  came_resting : (x : Refusal) → check (calls.advance m) (standing_of r) ≡ Err x → todo ≡ 0 → advance_reply told ≡ outcomes.turned_away x
       → outcome (advance_reply told) [] next ≡ call (calls.advance m) r
   unfolding run resumed
   came_resting x off none t =
@@ -323,5 +323,5 @@ module _ (m todo : ℕ) (r s next : Runner) (at end value named steps : ℕ) (to
       → todo ≡ by_verdict verdict m (λ x. 0)
       → advance_reply told ≡ by_verdict verdict (cond (eqb end 1) (outcomes.running steps) (outcomes.ended (cond hidden 0 steps))) outcomes.turned_away
       → outcome (advance_reply told) [] next ≡ call (calls.advance m) r
-  advance_came Done e boxes t = came_running (sym e) boxes t
-  advance_came (Refused x) e none t = came_resting x (sym e) none t
+  advance_came (Ok _) e boxes t = came_running (sym e) boxes t
+  advance_came (Err x) e none t = came_resting x (sym e) none t

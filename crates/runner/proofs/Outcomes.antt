@@ -1,5 +1,6 @@
 -- The outcome of each call, case by case, over plain variables: what the proof of a method cites
 -- where it returns. Assumes nothing.
+use Rattle.std.specs.Prelude.{Ok, Err}
 use Prim.Native.Nat.{ℕ, ◌≤◌, ◌<◌}
 use mathlib.Core.Path.{◌≡◌, ap, sym, ◌∙◌}
 use mathlib.Core.List.{List, []}
@@ -8,20 +9,17 @@ use Rattle.block.specs.Refusing.{refusal}
 use Rattle.format.specs.File.{check_file}
 use Rattle.format.specs.declared.Header.{Header}
 use Rattle.block.specs.declared.Refusal.{Refusal}
-use Rattle.format.specs.declared.Checked.TheVariants as checked
 use Rattle.format.proofs.Passes.{passes}
 use Rattle.chart.specs.Chart.{table_of}
 use Rattle.chart.specs.WriteBack.{file_length, put_file}
 use Rattle.chart.proofs.Writes.{put_fits}
-use Rattle.chart.specs.declared.Written.TheVariants as written
 use Rattle.rewrite.specs.Rewrite.{rewritten}
 use Rattle.marks.specs.Marks.{mode_of}
 use Rattle.machine.specs.Run.{Progress}
 use Rattle.begin.specs.Begin.{effective, first_vars, first_marks}
 use Rattle.calls.specs.Calls.{Call, refuse, file_verdict, check}
 use Rattle.calls.specs.Calls as calls
-use Rattle.calls.specs.declared.Verdict.{Verdict}
-use Rattle.calls.specs.declared.Verdict.TheVariants.{Done, Refused}
+use Rattle.calls.specs.Calls.{Verdict}
 use Rattle.calls.proofs.Permits.{write_back_fits}
 use Rattle.runner.specs.declared.Runner.{Runner}
 use Rattle.runner.specs.declared.LoadTold.TheVariants as load
@@ -42,18 +40,18 @@ module _ (file : List ℕ) (r : Runner) where
   unfolding check load_reply outcome_by
   load_busy x d e = ap (λ (y : Refusal). outcome (outcomes.turned_away y) [] r) d ∙ by_verdict_lem (calls.load file) r (refuse 22) (rw e)
 
-  pub load_accepts : (h : Header) (table : List ℕ) (next : Runner) → (r.state ≡ 1 → ⊥) → check_file file ≡ checked.Accepted h → table ≡ table_of file
+  pub load_accepts : (h : Header) (table : List ℕ) (next : Runner) → (r.state ≡ 1 → ⊥) → check_file file ≡ Ok h → table ≡ table_of file
       → next ≡ idle (record { header = h; table = table })
       → outcome (load_reply (load.Chart h.inputs h.boxes)) [] next ≡ call (calls.load file) r
   unfolding check file_verdict load_reply outcome_by says after
   load_accepts h table next n e t d =
       ap (outcome (outcomes.chart h.inputs h.boxes) []) (d ∙ ap (λ (x : List ℕ). idle (record { header = h; table = x })) t)
       ∙ ap (λ (x : Header). outcome (outcomes.chart x.inputs x.boxes) [] (idle (record { header = x; table = table_of file }))) (passes file h e).header
-      ∙ by_verdict_lem (calls.load file) r Done (rw (ne_eqb _ _ n, e))
+      ∙ by_verdict_lem (calls.load file) r (Ok tt) (rw (ne_eqb _ _ n, e))
 
-  pub load_refuses : (x : Refusal) → (r.state ≡ 1 → ⊥) → check_file file ≡ checked.Refused x → outcome (load_reply (load.Refused x)) [] r ≡ call (calls.load file) r
+  pub load_refuses : (x : Refusal) → (r.state ≡ 1 → ⊥) → check_file file ≡ Err x → outcome (load_reply (load.Refused x)) [] r ≡ call (calls.load file) r
   unfolding check file_verdict load_reply outcome_by
-  load_refuses x n e = by_verdict_lem (calls.load file) r (Refused x) (rw (ne_eqb _ _ n, e))
+  load_refuses x n e = by_verdict_lem (calls.load file) r (Err x) (rw (ne_eqb _ _ n, e))
 
 -- Begin.
 module _ (mode : ℕ) (inputs : List ℕ) (allowed limit : ℕ) (r : Runner) where
@@ -62,25 +60,25 @@ module _ (mode : ℕ) (inputs : List ℕ) (allowed limit : ℕ) (r : Runner) whe
   started_with vars marks l =
       under_way (chart_in r) mode (record { vars = vars; marks = marks; counter = 0; mode = mode_of mode; at = r.header.first; limit = l; steps = 0 })
 
-  pub begin_accepts : (vars marks : List ℕ) (l : ℕ) → Done ≡ check (calls.begin mode inputs allowed limit) (standing_of r)
+  pub begin_accepts : (vars marks : List ℕ) (l : ℕ) → Ok tt ≡ check (calls.begin mode inputs allowed limit) (standing_of r)
       → vars ≡ first_vars inputs → marks ≡ first_marks allowed r.header.inputs → l ≡ effective limit
-      → outcome (verdict_reply Done) [] (started_with vars marks l) ≡ call (calls.begin mode inputs allowed limit) r
+      → outcome (verdict_reply (Ok tt)) [] (started_with vars marks l) ≡ call (calls.begin mode inputs allowed limit) r
   unfolding verdict_reply outcome_by says after
   begin_accepts vars marks l e ev em el =
       ap (λ (x : List ℕ). outcome outcomes.done [] (started_with x marks l)) ev
       ∙ ap (λ (x : List ℕ). outcome outcomes.done [] (started_with (first_vars inputs) x l)) em
       ∙ ap (λ (x : ℕ). outcome outcomes.done [] (started_with (first_vars inputs) (first_marks allowed r.header.inputs) x)) el
-      ∙ by_verdict_lem (calls.begin mode inputs allowed limit) r Done (sym e)
+      ∙ by_verdict_lem (calls.begin mode inputs allowed limit) r (Ok tt) (sym e)
 
-  pub begin_refuses : (v : Verdict) (x : Refusal) → v ≡ check (calls.begin mode inputs allowed limit) (standing_of r) → v ≡ Refused x
+  pub begin_refuses : (v : Verdict) (x : Refusal) → v ≡ check (calls.begin mode inputs allowed limit) (standing_of r) → v ≡ Err x
       → outcome (verdict_reply v) [] r ≡ call (calls.begin mode inputs allowed limit) r
   unfolding verdict_reply outcome_by
   begin_refuses v x e d =
-      ap (λ (y : Verdict). outcome (verdict_reply y) [] r) d ∙ by_verdict_lem (calls.begin mode inputs allowed limit) r (Refused x) (sym e ∙ d)
+      ap (λ (y : Verdict). outcome (verdict_reply y) [] r) d ∙ by_verdict_lem (calls.begin mode inputs allowed limit) r (Err x) (sym e ∙ d)
 
 -- Advance: a run that has come to something, and one that is refused.
 module _ (m : ℕ) (r next : Runner) (told : AdvanceTold) where
-  pub advance_runs : (p : Progress) → check (calls.advance m) (standing_of r) ≡ Done → ran m r ≡ p → advance_reply told ≡ progress_reply (mode_of r.mode) p
+  pub advance_runs : (p : Progress) → check (calls.advance m) (standing_of r) ≡ Ok tt → ran m r ≡ p → advance_reply told ≡ progress_reply (mode_of r.mode) p
       → next ≡ resumed p r
       → outcome (advance_reply told) [] next ≡ call (calls.advance m) r
   unfolding outcome_by says after
@@ -88,15 +86,15 @@ module _ (m : ℕ) (r next : Runner) (told : AdvanceTold) where
       ap (λ (x : outcomes.Reply). outcome x [] next) t
       ∙ ap (outcome (progress_reply (mode_of r.mode) p) []) d
       ∙ ap (λ (x : Progress). outcome (progress_reply (mode_of r.mode) x) [] (resumed x r)) (sym e)
-      ∙ by_verdict_lem (calls.advance m) r Done v
+      ∙ by_verdict_lem (calls.advance m) r (Ok tt) v
 
-  pub advance_refuses : (x : Refusal) → check (calls.advance m) (standing_of r) ≡ Refused x → advance_reply told ≡ outcomes.turned_away x → next ≡ r
+  pub advance_refuses : (x : Refusal) → check (calls.advance m) (standing_of r) ≡ Err x → advance_reply told ≡ outcomes.turned_away x → next ≡ r
       → outcome (advance_reply told) [] next ≡ call (calls.advance m) r
   unfolding outcome_by
   advance_refuses x v t d =
       ap (λ (y : outcomes.Reply). outcome y [] next) t
       ∙ ap (outcome (outcomes.turned_away x) []) d
-      ∙ by_verdict_lem (calls.advance m) r (Refused x) v
+      ∙ by_verdict_lem (calls.advance m) r (Err x) v
 
 -- Abandon, answer, write back and the rewriter.
 module _ (r : Runner) where
@@ -104,9 +102,9 @@ module _ (r : Runner) where
   unfolding check verdict_reply outcome_by
   abandon_refuses v n e = ap (λ (x : Verdict). outcome (verdict_reply x) [] r) e ∙ by_verdict_lem calls.abandon r (refuse 23) (rw (ne_eqb _ _ n))
 
-  pub abandon_drops : (q : Runner) → r.state ≡ 1 → q ≡ dropped r → outcome (verdict_reply Done) [] q ≡ call calls.abandon r
+  pub abandon_drops : (q : Runner) → r.state ≡ 1 → q ≡ dropped r → outcome (verdict_reply (Ok tt)) [] q ≡ call calls.abandon r
   unfolding check verdict_reply outcome_by says after
-  abandon_drops q e d = ap (outcome outcomes.done []) d ∙ by_verdict_lem calls.abandon r Done (rw e)
+  abandon_drops q e d = ap (outcome outcomes.done []) d ∙ by_verdict_lem calls.abandon r (Ok tt) (rw e)
 
   pub answer_refuses : (x : Refusal) → x ≡ refusal 24 0 → r.state < 2 → outcome (answer_reply (answer.Refused x)) [] r ≡ call calls.answer r
   unfolding check answer_reply outcome_by
@@ -114,7 +112,7 @@ module _ (r : Runner) where
 
   answer_tells : 2 ≤ r.state → outcome (outcomes.ending (ending_in r) r.total) [] r ≡ call calls.answer r
   unfolding check outcome_by says after
-  answer_tells l = by_verdict_lem calls.answer r Done (rw (le-leb _ _ l))
+  answer_tells l = by_verdict_lem calls.answer r (Ok tt) (rw (le-leb _ _ l))
 
   pub answer_value : 2 ≤ r.state → r.state ≡ 2 → outcome (answer_reply (answer.Value r.value r.total)) [] r ≡ call calls.answer r
   unfolding answer_reply
@@ -129,30 +127,30 @@ module _ (r : Runner) where
   answer_spent l n m = sym (rw (ne_eqb _ _ n, ne_eqb _ _ m)) ∙ answer_tells l
 
   -- What stands in the buffer after the file was put there, and the length told.
-  pub write_back_accepts : (n : ℕ) (buffer end : List ℕ) → Done ≡ check (calls.write_back buffer) (standing_of r) → n ≡ file_length r.header
+  pub write_back_accepts : (n : ℕ) (buffer end : List ℕ) → Ok tt ≡ check (calls.write_back buffer) (standing_of r) → n ≡ file_length r.header
       → end ≡ put_file r.header r.table buffer
-      → outcome (written_reply (written.Length n)) end r ≡ call (calls.write_back buffer) r
+      → outcome (written_reply (Ok n)) end r ≡ call (calls.write_back buffer) r
   unfolding written_reply outcome_by says after
   write_back_accepts n buffer end v e d =
       let fits = write_back_fits buffer (standing_of r) (sym v) in
       ap (λ (k : ℕ). outcome (outcomes.wrote k) end r) e
       ∙ ap (λ (b : List ℕ). outcome (outcomes.wrote (file_length r.header)) b r) (d ∙ put_fits r.header r.table buffer fits.0 fits.1)
-      ∙ by_verdict_lem (calls.write_back buffer) r Done (sym v)
+      ∙ by_verdict_lem (calls.write_back buffer) r (Ok tt) (sym v)
 
-  pub write_back_refuses : (v : Verdict) (x : Refusal) (buffer : List ℕ) → v ≡ check (calls.write_back buffer) (standing_of r) → v ≡ Refused x
-      → outcome (written_reply (written.Refused x)) buffer r ≡ call (calls.write_back buffer) r
+  pub write_back_refuses : (v : Verdict) (x : Refusal) (buffer : List ℕ) → v ≡ check (calls.write_back buffer) (standing_of r) → v ≡ Err x
+      → outcome (written_reply (Err x)) buffer r ≡ call (calls.write_back buffer) r
   unfolding written_reply outcome_by
-  write_back_refuses v x buffer e d = by_verdict_lem (calls.write_back buffer) r (Refused x) (sym e ∙ d)
+  write_back_refuses v x buffer e d = by_verdict_lem (calls.write_back buffer) r (Err x) (sym e ∙ d)
 
-  pub rewrite_accepts : (table : List ℕ) (next : Runner) → Done ≡ check calls.rewrite (standing_of r) → table ≡ rewritten r.table
+  pub rewrite_accepts : (table : List ℕ) (next : Runner) → Ok tt ≡ check calls.rewrite (standing_of r) → table ≡ rewritten r.table
       → next ≡ idle (record { header = r.header; table = table })
-      → outcome (verdict_reply Done) [] next ≡ call calls.rewrite r
+      → outcome (verdict_reply (Ok tt)) [] next ≡ call calls.rewrite r
   unfolding verdict_reply outcome_by says after
   rewrite_accepts table next v t d =
-      ap (outcome outcomes.done []) (d ∙ ap (λ (x : List ℕ). idle (record { header = r.header; table = x })) t) ∙ by_verdict_lem calls.rewrite r Done (sym v)
+      ap (outcome outcomes.done []) (d ∙ ap (λ (x : List ℕ). idle (record { header = r.header; table = x })) t) ∙ by_verdict_lem calls.rewrite r (Ok tt) (sym v)
 
-  pub rewrite_refuses : (v : Verdict) (x : Refusal) → v ≡ check calls.rewrite (standing_of r) → v ≡ Refused x
+  pub rewrite_refuses : (v : Verdict) (x : Refusal) → v ≡ check calls.rewrite (standing_of r) → v ≡ Err x
       → outcome (verdict_reply v) [] r ≡ call calls.rewrite r
   unfolding verdict_reply outcome_by
   rewrite_refuses v x e d =
-      ap (λ (y : Verdict). outcome (verdict_reply y) [] r) d ∙ by_verdict_lem calls.rewrite r (Refused x) (sym e ∙ d)
+      ap (λ (y : Verdict). outcome (verdict_reply y) [] r) d ∙ by_verdict_lem calls.rewrite r (Err x) (sym e ∙ d)

@@ -1,5 +1,6 @@
 -- The seven calls, by one definition: what refuses a call, and else what it tells, the lent buffer
 -- and the runner afterwards.
+use Rattle.std.specs.Prelude.{Ok, Err}
 use Rattle.std.specs.Prelude.{ℕ, List, [], cond}
 use Rattle.format.specs.File.{header_of}
 use Rattle.block.specs.declared.Refusal.{Refusal}
@@ -11,8 +12,7 @@ use Rattle.machine.specs.Run.{Run, Ending, Progress, going, over}
 use Rattle.begin.specs.Begin.{effective}
 use Rattle.runs.specs.Whole.{Flowchart, start_of}
 use Rattle.calls.specs.Calls.{Call, load, begin, advance, answer, abandon, write_back, rewrite, check}
-use Rattle.calls.specs.declared.Verdict.{Verdict}
-use Rattle.calls.specs.declared.Verdict.TheVariants.{Done, Refused}
+use Rattle.calls.specs.Calls.{Verdict}
 use Rattle.runner.specs.declared.Runner.{Runner}
 use Rattle.runner.specs.State.{chart_in, flowchart_in, standing_of, ending_in, under_way, idle, dropped, ran, resumed}
 
@@ -110,8 +110,8 @@ turned_away x = refused x.number x.detail
 -- The outcome of a call by its verdict: a refusal changes neither the runner nor a byte of the lent
 -- buffer.
 unfoldable pub outcome_by : Verdict → Call → Runner → Outcome
-outcome_by Done c r = outcome (says c r) (lent_as (with_file r.header r.table) c) (after (effect c) r)
-outcome_by (Refused x) c r = outcome (turned_away x) (lent c) r
+outcome_by (Ok _) c r = outcome (says c r) (lent_as (with_file r.header r.table) c) (after (effect c) r)
+outcome_by (Err x) c r = outcome (turned_away x) (lent c) r
 
 unfoldable pub call : Call → Runner → Outcome
 call c r = outcome_by (check c (standing_of r)) c r

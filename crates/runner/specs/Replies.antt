@@ -1,10 +1,9 @@
 -- What the code's answers tell, one definition for each enum: document 01's number, detail and
 -- values for every case.
-use Rattle.chart.specs.declared.Written.{Written}
-use Rattle.chart.specs.declared.Written.TheVariants as written
+use Rattle.std.specs.Prelude.{Ok, Err}
+use Rattle.chart.specs.WriteBack.{Written}
 use Rattle.machine.specs.Run.{valued, notice, spent}
-use Rattle.calls.specs.declared.Verdict.{Verdict}
-use Rattle.calls.specs.declared.Verdict.TheVariants as verdict
+use Rattle.calls.specs.Calls.{Verdict}
 use Rattle.runner.specs.Outcomes.{Reply, done, chart, running, ended, ending, wrote, turned_away}
 use Rattle.runner.specs.declared.LoadTold.{LoadTold}
 use Rattle.runner.specs.declared.LoadTold.TheVariants as load
@@ -18,8 +17,8 @@ load_reply (load.Chart inputs boxes) = chart inputs boxes
 load_reply (load.Refused x) = turned_away x
 
 unfoldable pub verdict_reply : Verdict → Reply
-verdict_reply verdict.Done = done
-verdict_reply (verdict.Refused x) = turned_away x
+verdict_reply (Ok _) = done
+verdict_reply (Err x) = turned_away x
 
 unfoldable pub advance_reply : AdvanceTold → Reply
 advance_reply (advance.Running steps) = running steps
@@ -33,5 +32,5 @@ answer_reply (answer.Spent steps) = ending spent steps
 answer_reply (answer.Refused x) = turned_away x
 
 unfoldable pub written_reply : Written → Reply
-written_reply (written.Length bytes) = wrote bytes
-written_reply (written.Refused x) = turned_away x
+written_reply (Ok bytes) = wrote bytes
+written_reply (Err x) = turned_away x

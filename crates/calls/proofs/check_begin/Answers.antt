@@ -8,10 +8,10 @@ use Rattle.calls.proofs.Refusals.{not_at_rest, rests}
 use Rattle.calls.proofs.check_begin.Goals as goal
 
 pub overflow_shr-allowed : goal.overflow_shr-allowed
-overflow_shr-allowed c = omega (arith, (in_range_lem c.args.standing.header (rests c.args.standing (sym c.at_rest-first.ensures ∙ c.in-Done.is)).0).few)
+overflow_shr-allowed c = omega (arith, (in_range_lem c.args.standing.header (rests c.args.standing (sym c.at_rest-first.ensures ∙ c.in-Ok.is)).0).few)
 
-pub returns-in-Refused : goal.returns-in-Refused
+pub returns-in-Err : goal.returns-in-Err
 unfolding check
-returns-in-Refused c =
+returns-in-Err c =
     let is = c.at_rest-first.ensures in
-    is ∙ not_at_rest c.args.standing _ _ (sym is ∙ c.in-Refused.is)
+    is ∙ not_at_rest c.args.standing _ _ (sym is ∙ c.in-Err.is)

@@ -8,14 +8,14 @@ use Rattle.convert.proofs.check_conversion.Goals as goal
 pub check_chart-requires : goal.check_chart-requires
 check_chart-requires c =
     let a = c.args in
-    (search rules, (passes a.file.now _ (sym c.check_file-checked.ensures ∙ c.in-Accepted.is)).fits)
+    (search rules, (passes a.file.now _ (sym c.check_file-checked.ensures ∙ c.in-Ok.is)).fits)
 
-pub returns-in-Accepted : goal.returns-in-Accepted
-returns-in-Accepted c =
+pub returns-in-Ok : goal.returns-in-Ok
+returns-in-Ok c =
     let a = c.args in
-    c.check_chart.ensures ∙ after_chart a.file.now a.table.now a.room (sym c.check_file-checked.ensures ∙ c.in-Accepted.is)
+    c.check_chart.ensures ∙ after_chart a.file.now a.table.now a.room (sym c.check_file-checked.ensures ∙ c.in-Ok.is)
 
-pub returns-in-Refused : goal.returns-in-Refused
-returns-in-Refused c =
+pub returns-in-Err : goal.returns-in-Err
+returns-in-Err c =
     let a = c.args in
-    after_refused a.file.now a.table.now a.room (sym c.check_file-checked.ensures ∙ c.in-Refused.is)
+    after_refused a.file.now a.table.now a.room (sym c.check_file-checked.ensures ∙ c.in-Err.is)

@@ -3,12 +3,12 @@ use mathlib.Core.Path.{sym, ◌∙◌}
 use Rattle.convert.proofs.Answers.{converts, converts_refused}
 use Rattle.convert.proofs.convert.Goals as goal
 
-pub returns-in-Accepted : goal.returns-in-Accepted
-returns-in-Accepted c =
+pub returns-in-Ok : goal.returns-in-Ok
+returns-in-Ok c =
     let a = c.args in
-    converts a.file.now _ a.buf.now c.table_of-table.ensures _ (sym c.check_conversion-answer.ensures ∙ c.in-Accepted.is) c.file_length.ensures.0 c.put_file.ensures
+    converts a.file.now _ a.buf.now c.table_of-table.ensures _ (sym c.check_conversion-answer.ensures ∙ c.in-Ok.is) c.file_length.ensures.0 c.put_file.ensures
 
-pub returns-in-Refused : goal.returns-in-Refused
-returns-in-Refused c =
+pub returns-in-Err : goal.returns-in-Err
+returns-in-Err c =
     let a = c.args in
-    converts_refused a.file.now _ a.buf.now c.table_of-table.ensures _ (sym c.check_conversion-answer.ensures ∙ c.in-Refused.is)
+    converts_refused a.file.now _ a.buf.now c.table_of-table.ensures _ (sym c.check_conversion-answer.ensures ∙ c.in-Err.is)

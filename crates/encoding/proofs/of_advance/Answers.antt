@@ -11,6 +11,6 @@ pub returns-in-Ended : goal.returns-in-Ended
 unfolding encode advance_reply
 returns-in-Ended c = rw c.in-Ended.is c.make-in-Ended.ensures
 
-pub returns-in-Refused : goal.returns-in-Refused
+pub returns-in-Err : goal.returns-in-Err
 unfolding encode advance_reply
-returns-in-Refused c = rw c.in-Refused.is c.of_refusal.ensures
+returns-in-Err c = rw c.in-Err.is c.of_refusal.ensures

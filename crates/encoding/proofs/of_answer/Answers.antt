@@ -15,6 +15,6 @@ pub returns-in-Spent : goal.returns-in-Spent
 unfolding encode answer_reply ending_numbers
 returns-in-Spent c = rw c.in-Spent.is c.make-in-Spent.ensures
 
-pub returns-in-Refused : goal.returns-in-Refused
+pub returns-in-Err : goal.returns-in-Err
 unfolding encode answer_reply ending_numbers
-returns-in-Refused c = rw c.in-Refused.is c.of_refusal.ensures
+returns-in-Err c = rw c.in-Err.is c.of_refusal.ensures

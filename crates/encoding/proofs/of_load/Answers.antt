@@ -7,6 +7,6 @@ pub returns-in-Chart : goal.returns-in-Chart
 unfolding encode load_reply
 returns-in-Chart c = rw c.in-Chart.is c.make.ensures
 
-pub returns-in-Refused : goal.returns-in-Refused
+pub returns-in-Err : goal.returns-in-Err
 unfolding encode load_reply
-returns-in-Refused c = rw c.in-Refused.is c.of_refusal.ensures
+returns-in-Err c = rw c.in-Err.is c.of_refusal.ensures

@@ -3,10 +3,10 @@ use Rattle.runner.specs.Replies.{written_reply}
 use Rattle.encoding.specs.Encoding.{encode}
 use Rattle.encoding.proofs.of_written.Goals as goal
 
-pub returns-in-Length : goal.returns-in-Length
+pub returns-in-Ok : goal.returns-in-Ok
 unfolding encode written_reply
-returns-in-Length c = rw c.in-Length.is c.make.ensures
+returns-in-Ok c = rw c.in-Ok.is c.make.ensures
 
-pub returns-in-Refused : goal.returns-in-Refused
+pub returns-in-Err : goal.returns-in-Err
 unfolding encode written_reply
-returns-in-Refused c = rw c.in-Refused.is c.of_refusal.ensures
+returns-in-Err c = rw c.in-Err.is c.of_refusal.ensures

@@ -15,6 +15,6 @@ pub returns-in-Spent : goal.returns-in-Spent
 unfolding reply_text answer_reply ending_text
 returns-in-Spent c = rw c.in-Spent.is c.print_spent.ensures
 
-pub returns-in-Refused : goal.returns-in-Refused
+pub returns-in-Err : goal.returns-in-Err
 unfolding reply_text answer_reply ending_text
-returns-in-Refused c = rw c.in-Refused.is c.print_refused.ensures
+returns-in-Err c = rw c.in-Err.is c.print_refused.ensures

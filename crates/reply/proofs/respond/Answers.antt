@@ -43,8 +43,8 @@ slice_bounds-begin-end c =
     let r = range c.args.text.now c.parse-read.result c.parse-read.ensures c.if-count-eq0.false in
     search rules
 
-pub returns-in-Done : goal.returns-in-Done
-returns-in-Done c =
+pub returns-in-Ok : goal.returns-in-Ok
+returns-in-Ok c =
     let p = c.print_answer in
     let a = c.args in
     let read = c.parse-read in
@@ -52,16 +52,16 @@ returns-in-Done c =
     let advanced = c.advance-advanced in
     let told = c.answer in
     let all = runs a.runner a.number a.text.now read.result read.ensures p.result a.out.now p.new.out c.if-count-eq0.false
-    begun.result.told begun.result.runner begun.ensures c.in-Done.is
+    begun.result.told begun.result.runner begun.ensures c.in-Ok.is
     advanced.result.told advanced.result.runner advanced.ensures told.result told.ensures (p.ensures.value, p.ensures.out_after) in
     record { value = all.0; out_after = all.1 }
 
-pub returns-in-Refused : goal.returns-in-Refused
-returns-in-Refused c =
-    let p = c.print_refused-in-Refused in
+pub returns-in-Err : goal.returns-in-Err
+returns-in-Err c =
+    let p = c.print_refused-in-Err in
     let a = c.args in
     let read = c.parse-read in
     let begun = c.begin-begun in
     let all = refuses a.runner a.number a.text.now read.result read.ensures p.result a.out.now p.new.out c.if-count-eq0.false
-    begun.result.told begun.result.runner begun.ensures _ c.in-Refused.is (p.ensures.value, p.ensures.out_after) in
+    begun.result.told begun.result.runner begun.ensures _ c.in-Err.is (p.ensures.value, p.ensures.out_after) in
     record { value = all.0; out_after = all.1 }

@@ -7,12 +7,12 @@ use Rattle.runner.proofs.tell.Goals as goal
 
 pub returns-then-end-eq-RUNNING : goal.returns-then-end-eq-RUNNING
 unfolding advance_reply
-returns-then-end-eq-RUNNING c = rw (c.in-Done.is, c.if-end-eq-RUNNING.true)
+returns-then-end-eq-RUNNING c = rw (c.in-Ok.is, c.if-end-eq-RUNNING.true)
 
 pub returns-else-end-eq-RUNNING : goal.returns-else-end-eq-RUNNING
 unfolding advance_reply
-returns-else-end-eq-RUNNING c = rw (c.in-Done.is, ne_eqb _ _ c.if-end-eq-RUNNING.false) (ap ended c.select.ensures)
+returns-else-end-eq-RUNNING c = rw (c.in-Ok.is, ne_eqb _ _ c.if-end-eq-RUNNING.false) (ap ended c.select.ensures)
 
-pub returns-in-Refused : goal.returns-in-Refused
+pub returns-in-Err : goal.returns-in-Err
 unfolding advance_reply
-returns-in-Refused c = rw c.in-Refused.is
+returns-in-Err c = rw c.in-Err.is

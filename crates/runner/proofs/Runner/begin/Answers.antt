@@ -9,7 +9,7 @@ use Rattle.calls.specs.Calls.{check}
 use Rattle.calls.specs.Calls as calls
 use Rattle.calls.proofs.Permits.{permitted}
 use Rattle.calls.specs.declared.Standing.{Standing}
-use Rattle.calls.specs.declared.Verdict.{Verdict}
+use Rattle.calls.specs.Calls.{Verdict}
 use Rattle.runner.specs.declared.Runner.{Runner}
 use Rattle.runner.specs.State.{standing_of}
 use Rattle.runner.proofs.Outcomes.{begin_accepts, begin_refuses}
@@ -23,27 +23,27 @@ judged mode inputs allowed limit r s v is e = is ∙ ap (check (calls.begin mode
 pub overflow_cast-self : goal.overflow_cast-self
 overflow_cast-self c =
     let a = c.args in
-    let accepted = sym (judged _ _ _ _ c.args.self _ _ c.check_begin-told.ensures c.standing_of-standing.ensures) ∙ c.in-Done.is in
+    let accepted = sym (judged _ _ _ _ c.args.self _ _ c.check_begin-told.ensures c.standing_of-standing.ensures) ∙ c.in-Ok.is in
     let known = (permitted a.mode _ a.allowed a.limit _ accepted).known in
     search rules
 
-pub overflow_cast-self-in-Done : goal.overflow_cast-self-in-Done
-overflow_cast-self-in-Done c =
+pub overflow_cast-self-in-Ok : goal.overflow_cast-self-in-Ok
+overflow_cast-self-in-Ok c =
     let a = c.args in
-    let accepted = sym (judged _ _ _ _ c.args.self _ _ c.check_begin-told.ensures c.standing_of-standing.ensures) ∙ c.in-Done.is in
+    let accepted = sym (judged _ _ _ _ c.args.self _ _ c.check_begin-told.ensures c.standing_of-standing.ensures) ∙ c.in-Ok.is in
     let fits = effective_fits _ (permitted a.mode _ a.allowed a.limit _ accepted).fits in
     let is = c.effective.ensures in
     search rules
 
-pub returns-in-Done : goal.returns-in-Done
-returns-in-Done c =
+pub returns-in-Ok : goal.returns-in-Ok
+returns-in-Ok c =
     let r = c.args.self in
-    let accepted = c.in-Done.is in
+    let accepted = c.in-Ok.is in
     rw accepted
     (begin_accepts _ _ _ _ r _ _ _ (sym accepted ∙ judged _ _ _ _ c.args.self _ _ c.check_begin-told.ensures c.standing_of-standing.ensures) c.first_vars-vars.ensures
     c.first_marks-marks.ensures c.effective.ensures)
 
-pub returns-in-Refused : goal.returns-in-Refused
-returns-in-Refused c =
+pub returns-in-Err : goal.returns-in-Err
+returns-in-Err c =
     let r = c.args.self in
-    begin_refuses _ _ _ _ r c.check_begin-told.result _ (judged _ _ _ _ c.args.self _ _ c.check_begin-told.ensures c.standing_of-standing.ensures) c.in-Refused.is
+    begin_refuses _ _ _ _ r c.check_begin-told.result _ (judged _ _ _ _ c.args.self _ _ c.check_begin-told.ensures c.standing_of-standing.ensures) c.in-Err.is

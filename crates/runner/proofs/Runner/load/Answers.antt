@@ -5,13 +5,13 @@ use Rattle.runner.specs.State.{dropped}
 use Rattle.runner.proofs.Outcomes.{load_accepts, load_refuses}
 use Rattle.runner.proofs.Runner.load.Goals as goal
 
-pub returns-in-Accepted : goal.returns-in-Accepted
+pub returns-in-Ok : goal.returns-in-Ok
 unfolding dropped
-returns-in-Accepted c =
+returns-in-Ok c =
     load_accepts _ _ _ _ c.dropped-runner.result (search rules)
-    (sym c.check_file-checked.ensures ∙ c.in-Accepted.is)
+    (sym c.check_file-checked.ensures ∙ c.in-Ok.is)
     c.table_of-table.ensures
     c.dropped-runner.ensures
 
-pub returns-in-Refused : goal.returns-in-Refused
-returns-in-Refused c = load_refuses _ _ _ (search rules) (sym c.check_file-checked.ensures ∙ c.in-Refused.is)
+pub returns-in-Err : goal.returns-in-Err
+returns-in-Err c = load_refuses _ _ _ (search rules) (sym c.check_file-checked.ensures ∙ c.in-Err.is)

@@ -6,15 +6,15 @@ use Rattle.runner.specs.State.{dropped}
 use Rattle.runner.proofs.Outcomes.{rewrite_accepts, rewrite_refuses}
 use Rattle.runner.proofs.Runner.rewrite.Goals as goal
 
-pub returns-in-Done : goal.returns-in-Done
+pub returns-in-Ok : goal.returns-in-Ok
 unfolding dropped
-returns-in-Done c =
+returns-in-Ok c =
     let r = c.args.self in
-    let accepted = c.in-Done.is in
+    let accepted = c.in-Ok.is in
     rw accepted
     (rewrite_accepts r _ c.dropped-runner.result (sym accepted ∙ c.check_rewrite-told.ensures ∙ ap (check rewrite) c.standing_of.ensures) c.rewrite.ensures c.dropped-runner.ensures)
 
-pub returns-in-Refused : goal.returns-in-Refused
-returns-in-Refused c =
+pub returns-in-Err : goal.returns-in-Err
+returns-in-Err c =
     let r = c.args.self in
-    rewrite_refuses r c.check_rewrite-told.result _ (c.check_rewrite-told.ensures ∙ ap (check rewrite) c.standing_of.ensures) c.in-Refused.is
+    rewrite_refuses r c.check_rewrite-told.result _ (c.check_rewrite-told.ensures ∙ ap (check rewrite) c.standing_of.ensures) c.in-Err.is

@@ -4,15 +4,15 @@ use Rattle.calls.specs.Calls.{check}
 use Rattle.runner.proofs.Outcomes.{write_back_accepts, write_back_refuses}
 use Rattle.runner.proofs.Runner.write_back.Goals as goal
 
-pub returns-in-Done : goal.returns-in-Done
-returns-in-Done c =
+pub returns-in-Ok : goal.returns-in-Ok
+returns-in-Ok c =
     let r = c.args.self in
     write_back_accepts r c.file_length.result _ _
-    (sym c.in-Done.is ∙ c.check_write_back-verdict.ensures ∙ ap (check _) c.standing_of-standing.ensures)
+    (sym c.in-Ok.is ∙ c.check_write_back-verdict.ensures ∙ ap (check _) c.standing_of-standing.ensures)
     c.file_length.ensures.0 c.put_file.ensures
 
-pub returns-in-Refused : goal.returns-in-Refused
-returns-in-Refused c =
+pub returns-in-Err : goal.returns-in-Err
+returns-in-Err c =
     let r = c.args.self in
     write_back_refuses r c.check_write_back-verdict.result _ _ (c.check_write_back-verdict.ensures ∙ ap (check _) c.standing_of-standing.ensures)
-    c.in-Refused.is
+    c.in-Err.is
