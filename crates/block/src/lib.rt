@@ -78,41 +78,35 @@ impl From<Reason> for Refusal {
 pub fn checksum(added: u32, block: &[u8]) -> u32
     ensures { result ≡ checksum added block.now }
 {
-    let end = widen::lesser(510, block.len());
+    let end = block.len().min(510);
     let mut sum = (added % 65536) as u16;
-    let mut weight: u32 = 1;
-    let mut i: usize = 0;
-    while i < end {
-        let term = weight * widen::to_u32(block[i]);
-        sum = std::num::wrapping_add_u16(sum, (term % 65536) as u16);
-        weight += 1;
-        i += 1;
+    for (i, byte) in block[..end].iter().enumerate() {
+        let term = (i as u32 + 1) * u32::from(*byte);
+        sum = sum.wrapping_add((term % 65536) as u16);
     }
-    sum as u32
+    u32::from(sum)
 }
 
 // Byte i, and 0 past the end.
-fn byte(block: &[u8], i: usize) -> u32
+fn byte(block: &[u8], i: usize) -> u8
     ensures { result ≡ at block.now i }
 {
-    if i < block.len() {
-        return widen::to_u32(block[i]);
-    }
-    0
+    block.get(i).copied().unwrap_or(0)
 }
 
 // Bytes 510 and 511 hold the block's check, with so much added, low byte first.
 pub fn is_sealed(added: u32, block: &[u8]) -> bool
     ensures { result ≡ is_sealed added block.now }
 {
-    let check = checksum(added, block);
-    (byte(block, 510) == check % 256) & (byte(block, 511) == check / 256)
+    let [low, high, _, _] = checksum(added, block).to_le_bytes();
+    (byte(block, 510) == low) & (byte(block, 511) == high)
 }
 
 // Byte i becomes b, where there is a byte i.
 fn put(block: &mut [u8], i: usize, b: u8)
     ensures { block.new ≡ slice_set block.old i b }
 {
+    // Kept: with `get_mut` it stays open that the other bytes are as they were.
     if i < block.len() {
         block[i] = b;
     }
@@ -123,7 +117,7 @@ fn put(block: &mut [u8], i: usize, b: u8)
 pub fn seal(added: u32, block: &mut [u8])
     ensures { block.new ≡ with_seal added block.old }
 {
-    let check = checksum(added, block);
-    put(block, 510, (check % 256) as u8);
-    put(block, 511, (check / 256) as u8);
+    let [low, high, _, _] = checksum(added, block).to_le_bytes();
+    put(block, 510, low);
+    put(block, 511, high);
 }
