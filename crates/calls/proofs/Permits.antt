@@ -1,6 +1,5 @@
 -- What an accepted begin, advance, write back and rewriting say of their arguments: each of their
 -- rules has been kept. Assumes nothing.
-use Rattle.std.specs.Prelude.{Ok, Err}
 use Prim.Native.Nat.{ℕ, ◌/◌, ◌^◌, ◌≤◌}
 use mathlib.Core.Path.{◌≡◌, refl}
 use mathlib.Core.List.{List}
@@ -15,9 +14,10 @@ use Rattle.format.specs.declared.Header.{Header}
 use Rattle.chart.specs.WriteBack.{file_length, has_room}
 use Rattle.calls.specs.Calls.{begin, advance, write_back, rewrite, refuse_if, check}
 use Rattle.calls.specs.declared.Standing.{Standing}
+use Rattle.std.specs.Prelude.{Ok, Err}
 use Rattle.calls.specs.Calls.{Verdict}
 
-pub not_done {ℓ} : {A : Type ℓ} {x : Refusal} → Err x ≡ Ok tt → A
+pub not_done {ℓ} : {A : Type ℓ} {x : Refusal} → ◌≡◌ {A = Verdict} (Err x) (Ok tt) → A
 not_done e = let z : ◌≡◌ {A = ℕ} 0 1 = cc in absurd (omega arith)
 
 -- A rule on the way to an accepted call.

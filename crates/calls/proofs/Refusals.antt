@@ -1,6 +1,5 @@
 -- What begin, advance, write back and the rewriter are told at each of their rules, from the facts
 -- that lead there; what begin and the rewriter ask first is said once. Assumes nothing.
-use Rattle.std.specs.Prelude.{Ok, Err}
 use Prim.Native.Nat.{ℕ, ◌/◌, ◌^◌, ◌≤◌, ◌<◌}
 use mathlib.Core.Path.{◌≡◌, refl, sym, ◌∙◌}
 use mathlib.Core.List.{List}
@@ -12,6 +11,7 @@ use Rattle.format.specs.File.{in_range}
 use Rattle.chart.specs.WriteBack.{file_length}
 use Rattle.calls.specs.Calls.{begin, advance, write_back, rewrite, refuse, at_rest, check}
 use Rattle.calls.specs.declared.Standing.{Standing}
+use Rattle.std.specs.Prelude.{Ok, Err}
 use Rattle.calls.specs.Calls.{Verdict}
 use Rattle.calls.proofs.Permits.{not_done, passed}
 

@@ -1,14 +1,11 @@
 -- The seven calls, and what refuses each of them: by one definition, with the refusals in the
 -- documents' order.
-use Rattle.std.specs.Prelude.{Ok, Err}
-use Rattle.std.specs.Prelude.{ℕ, ◌/◌, ◌^◌, List, Bool, not, eqb, ltb, length}
+use Rattle.std.specs.Prelude.{ℕ, ◌/◌, ◌^◌, List, Bool, Result, Ok, Err, ⊤, not, eqb, ltb, length}
 use Rattle.block.specs.Refusing.{refusal, refuse_into}
 use Rattle.block.specs.declared.Refusal.{Refusal}
-use Rattle.format.specs.File.{in_range, check_file}
-use Rattle.format.specs.File.{Checked}
+use Rattle.format.specs.File.{Checked, in_range, check_file}
 use Rattle.chart.specs.WriteBack.{has_room}
 use Rattle.calls.specs.declared.Standing.{Standing}
-use Rattle.calls.specs.Calls.{Verdict}
 
 -- "The calls are all that take the runner: load, begin, advance, answer, abandon and write back."
 -- 02, g: "the rewriter joins the calls".
@@ -20,6 +17,10 @@ pub data Call : Type 0 where
   abandon : Call
   write_back : (buffer : List ℕ) → Call
   rewrite : Call
+
+-- What is answered of a call: done, or refused.
+abbrev pub Verdict : Type 0
+Verdict = Result ⊤ Refusal
 
 -- A refusal whose detail is 0, and a rule that refuses where it is broken.
 abbrev pub refuse : ℕ → Verdict

@@ -6,9 +6,8 @@ ghost use Rattle.format.specs.Search.{first_failing};
 ghost use Rattle.format.specs.File.{check_file};
 ghost use Rattle.convert.specs.Convert.{in_other, takes, takes_box, check_chart, check_after, conversion, convert};
 
-use block::Refusal;
-use chart::Written;
-use format::{Checked, Header};
+use block::{Reason, Refusal};
+use format::Header;
 
 // The header of a chart in the other edition.
 fn in_other(header: Header) -> Header
@@ -56,7 +55,7 @@ fn first_untaken(edition: u8, table: &[u8], boxes: usize) -> usize
 
 // What is answered of a chart that load accepts: the header of the file to be written, or a refusal
 // by 14 or 12.
-fn check_chart(header: Header, table: &[u8], room: usize) -> Checked
+fn check_chart(header: Header, table: &[u8], room: usize) -> Result<Header, Refusal>
     requires { (length table.now ≡ 2040) × (header.boxes ≤ 204) }
     ensures { result ≡ check_chart header table.now room }
 {
@@ -64,38 +63,30 @@ fn check_chart(header: Header, table: &[u8], room: usize) -> Checked
     let boxes = widen::to_usize(header.boxes);
     let untaken = first_untaken(other.edition, table, boxes);
     if untaken < boxes {
-        return Checked::Refused(Refusal::new(14, untaken as u32));
+        return Err(Reason::Untaken(untaken as u32).into());
     }
     if room < chart::file_length(other) {
-        return Checked::Refused(Refusal::new(12, 0));
+        return Err(Reason::Room.into());
     }
-    Checked::Accepted(other)
+    Ok(other)
 }
 
 // What is answered of a file: load's input checks 1 to 6 come first.
-fn check_conversion(file: &[u8], table: &[u8], room: usize) -> Checked
+fn check_conversion(file: &[u8], table: &[u8], room: usize) -> Result<Header, Refusal>
     requires { length table.now ≡ 2040 }
     ensures { result ≡ check_after (check_file file.now) table.now room }
 {
-    let checked = format::check_file(file);
-    match checked {
-        Checked::Accepted(header) => check_chart(header, table, room),
-        Checked::Refused(refusal) => Checked::Refused(refusal),
-    }
+    let header = format::check_file(file)?;
+    check_chart(header, table, room)
 }
 
 // Puts the other edition's file at the front of a lent buffer, each block in its own part, and
 // tells its length; a refusal leaves the buffer as it was.
-pub fn convert(file: &[u8], buf: &mut [u8]) -> Written
+pub fn convert(file: &[u8], buf: &mut [u8]) -> Result<usize, Refusal>
     ensures { conversion result buf.new ≡ convert file.now buf.old }
 {
     let table = chart::table_of(file);
-    let answer = check_conversion(file, &table, buf.len());
-    match answer {
-        Checked::Accepted(header) => {
-            chart::put_file(header, &table, buf);
-            Written::Length(chart::file_length(header))
-        }
-        Checked::Refused(refusal) => Written::Refused(refusal),
-    }
+    let header = check_conversion(file, &table, buf.len())?;
+    chart::put_file(header, &table, buf);
+    Ok(chart::file_length(header))
 }
