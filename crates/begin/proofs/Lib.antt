@@ -1,3 +1,3 @@
 -- Laws of the definitions in specs/ that the proofs cite.
-pub mod Fill
 pub mod Begins
+pub mod Fill

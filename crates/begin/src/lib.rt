@@ -8,6 +8,7 @@ ghost use Rattle.begin.specs.Begin.{effective, withheld_mark, first_vars, first_
 const LIMIT_FOR_NONE: u32 = 4096;
 
 // The limit that a number means.
+#[tactic(auto, unfolding(crate::specs::Begin::effective))]
 pub fn effective(limit: u32) -> u32
     ensures { result ≡ effective limit }
 {
@@ -18,17 +19,14 @@ pub fn effective(limit: u32) -> u32
 pub fn first_vars(inputs: &[u32]) -> [u32; 32]
     ensures { result ≡ first_vars inputs.now }
 {
-    let end = widen::lesser(32, inputs.len());
+    let end = inputs.len().min(32);
     let mut vars = [0u32; 32];
-    let mut j: usize = 0;
-    while j < end {
-        vars[j] = inputs[j];
-        j += 1;
-    }
+    vars[..end].copy_from_slice(&inputs[..end]);
     vars
 }
 
 // The mark of input j: itself alone, and none where the allowed set has its bit.
+#[tactic(auto, unfolding(crate::specs::Begin::withheld_mark))]
 fn withheld_mark(allowed: u32, j: usize) -> u16
     requires { j < 16 }
     ensures { result ≡ withheld_mark allowed j }
@@ -45,12 +43,10 @@ fn withheld_mark(allowed: u32, j: usize) -> u16
 pub fn first_marks(allowed: u32, k: u8) -> [u16; 32]
     ensures { result ≡ first_marks allowed k }
 {
-    let end = widen::lesser(16, widen::to_usize(k));
+    let end = usize::from(k).min(16);
     let mut marks = [0u16; 32];
-    let mut j: usize = 0;
-    while j < end {
-        marks[j] = withheld_mark(allowed, j);
-        j += 1;
+    for (j, mark) in marks[..end].iter_mut().enumerate() {
+        *mark = withheld_mark(allowed, j);
     }
     marks
 }

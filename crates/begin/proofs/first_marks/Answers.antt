@@ -1,24 +1,19 @@
-use mathlib.Core.Path.{◌∙◌}
-use native.Mathlib.Omega.{arith}
-use borrow.Author.Rules.{rules}
-use Rattle.begin.specs.Begin.{withheld_marks}
-use Rattle.begin.proofs.Begins.{length_withheld}
-use Rattle.lists.proofs.Stores.{fill}
-use Rattle.begin.proofs.Fill.{marks_next, marks_filled}
+use Rattle.std.proofs.Common.{arith}
+use Rattle.begin.proofs.Fill.{places_long, marks_none, marks_more, marks_filled}
 use Rattle.begin.proofs.first_marks.Goals as goal
 
 pub loop-j-init : goal.loop-j-init
-unfolding withheld_marks
-loop-j-init c = search rules
+loop-j-init c = marks_none c.args.allowed c.min-end.result (omega arith)
 
 pub loop-j-preserved : goal.loop-j-preserved
 loop-j-preserved c =
-    let a = c.args.allowed in
     let l = c.loop-j in
-    (search rules, fill 32 (withheld_marks a l.j) _ _ l.j _ (length_withheld a l.j) (omega arith) (marks_next a l.j _ c.withheld_mark.ensures) l.invariant.1)
+    let long = places_long c.min-end.result (omega arith) in
+    rw c.withheld_mark.ensures (marks_more c.args.allowed c.min-end.result l.j l.mark-items (omega arith) l.invariant)
 
 pub returns : goal.returns
 returns c =
     let a = c.args in
     let l = c.loop-j in
-    l.invariant.1 ∙ marks_filled a.allowed a.k l.j (omega arith)
+    let long = places_long c.min-end.result (omega arith) in
+    marks_filled a.allowed a.k c.min-end.result l.j l.mark-items (omega arith) (omega arith) l.invariant
