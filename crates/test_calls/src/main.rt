@@ -14,17 +14,6 @@ use test_text::print::{fill, say};
 use test_text::text::{number, part};
 use test_text::{edits, input, letters};
 
-// First two letters, as in `letters`.
-const KEEP: u32 = 0x6b65;
-
-const LESS: u32 = 0x6c65;
-
-const ROOM: u32 = 0x726f;
-
-const BUFFER: u32 = 0x6275;
-
-const MAKE: u32 = 0x6d61;
-
 fn wrong_line(rt: &impl Print, list: List, line: &[u8]) -> io::Result<List> {
     say(rt, b"wrong line: ")?;
     say(rt, line)?;
@@ -40,11 +29,11 @@ fn add(rt: &impl Print, list: List, line: &[u8], file: &File) -> io::Result<List
         return Ok(call_lines::add(list, line));
     }
     let after = match letters::of(line) {
-        KEEP => list.keep(front(file, first)),
-        LESS => list.less(first),
-        ROOM => list.with_room(first),
-        BUFFER => list.with_buffer(first, low(number(line, 2))),
-        report::LIST | report::BYTES => list,
+        b"ke" => list.keep(front(file, first)),
+        b"le" => list.less(first),
+        b"ro" => list.with_room(first),
+        b"bu" => list.with_buffer(first, low(number(line, 2))),
+        b"li" | b"by" => list,
         _ => wrong_line(rt, list, line)?,
     };
     Ok(after)
@@ -115,7 +104,7 @@ fn lists(rt: &impl Print, text: &[u8]) -> io::Result<()> {
     while i < text.len() {
         if text[i] == b'\n' {
             let line = part(text, start, i);
-            if letters::of(line) == MAKE {
+            if line.starts_with(b"ma") {
                 make(rt, list, part(text, first, start))?;
                 list = list::new();
                 first = i + 1;

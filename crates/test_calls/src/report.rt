@@ -7,11 +7,6 @@ use test_text::letters;
 use test_text::print::{fill, say};
 use test_text::text::{number, part, piece};
 
-// First two letters, as in `letters`.
-pub const LIST: u32 = 0x6c69;
-
-pub const BYTES: u32 = 0x6279;
-
 // What the numbers told are before a list is made.
 pub const UNTOLD: u32 = 99;
 
@@ -34,7 +29,7 @@ shown
 
 
 no call";
-    let name = piece(names, kind, b'\n');
+    let name = piece(names, kind as usize, b'\n');
     if name.len() == 0 {
         return fill(rt, b"kind %", &[kind as u64]);
     }
@@ -98,11 +93,11 @@ fn print_line(
         return print_told(rt, told, at);
     }
     match letters::of(line) {
-        LIST => {
+        b"li" => {
             say(rt, line)?;
             say(rt, b"\n")?;
         }
-        BYTES => {
+        b"by" => {
             say(rt, line)?;
             say(rt, b":")?;
             let from = number(line, 1) as usize;

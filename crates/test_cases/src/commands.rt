@@ -3,28 +3,17 @@
 use crate::pair;
 use crate::pair::Pair;
 use encoding::kinds;
-use std::io;
+use std::{array, io};
 use test_samples::arguments::first_inputs;
 use test_samples::files;
 use test_samples::files::{File, front, low};
+use test_text::letters::Call;
 use test_text::text::{number, part, piece};
 use test_text::{edits, letters};
 
-// First two letters, as in `letters`.
-const TAKE: u32 = 0x7461;
-
-const HOLDS: u32 = 0x686f;
-
-const NEW: u32 = 0x6e65;
-
-const EXPECT: u32 = 0x6578;
-
 // The inputs are the last numbers of the line, after their count.
 fn begin(pair: Pair, line: &[u8]) -> Pair {
-    let mut inputs = [0u32; 20];
-    for i in 0..20u32 {
-        inputs[i as usize] = number(line, 5 + i);
-    }
+    let inputs: [u32; 20] = array::from_fn(|i| number(line, 5 + i));
     let count = number(line, 4) as usize;
     pair.begin(
         number(line, 1),
@@ -55,25 +44,20 @@ fn holds(rt: &impl Print, pair: Pair, line: &[u8], file: &File) -> io::Result<Pa
     wrong_line(rt, pair, line)
 }
 
-fn call(rt: &impl Print, pair: Pair, line: &[u8], file: &File) -> io::Result<Pair> {
+fn call(pair: Pair, line: &[u8], file: &File, named: Call) -> Pair {
     let first = number(line, 1);
     let second = number(line, 2);
-    let after = match letters::of(line) {
-        letters::LOAD => pair.load(front(file, first as usize)),
-        letters::BEGIN => begin(pair, line),
-        letters::ADVANCE => pair.advance(first),
-        letters::ANSWER => pair.answer(),
-        letters::ABANDON => pair.abandon(),
-        letters::WRITE => pair.write_back(first as usize, second as usize, low(number(line, 3))),
-        letters::SHOW => pair.show(front(file, first as usize), second),
-        letters::CONVERT => pair.convert(front(file, first as usize), 7, second as usize, 9),
-        letters::REWRITE => pair.rewrite(),
-        HOLDS => holds(rt, pair, line, file)?,
-        NEW => pair.renew(),
-        EXPECT => expect(rt, pair, line)?,
-        _ => wrong_line(rt, pair, line)?,
-    };
-    Ok(after)
+    match named {
+        Call::Load => pair.load(front(file, first as usize)),
+        Call::Begin => begin(pair, line),
+        Call::Advance => pair.advance(first),
+        Call::Answer => pair.answer(),
+        Call::Abandon => pair.abandon(),
+        Call::Write => pair.write_back(first as usize, second as usize, low(number(line, 3))),
+        Call::Show => pair.show(front(file, first as usize), second),
+        Call::Convert => pair.convert(front(file, first as usize), 7, second as usize, 9),
+        Call::Rewrite => pair.rewrite(),
+    }
 }
 
 // Up to the first difference; comments are left out.
@@ -84,10 +68,16 @@ fn command(rt: &impl Print, pair: Pair, line: &[u8], file: &mut File) -> io::Res
     if edits::edit(line, file) {
         return Ok(pair);
     }
-    if letters::of(line) == TAKE {
-        return Ok(pair.take(file));
+    if let Some(named) = Call::of(line) {
+        return Ok(call(pair, line, file, named));
     }
-    call(rt, pair, line, file)
+    match letters::of(line) {
+        b"ta" => Ok(pair.take(file)),
+        b"ho" => holds(rt, pair, line, file),
+        b"ne" => Ok(pair.renew()),
+        b"ex" => expect(rt, pair, line),
+        _ => wrong_line(rt, pair, line),
+    }
 }
 
 pub fn run(rt: &impl Print, text: &[u8], file: &mut File) -> io::Result<bool> {

@@ -18,7 +18,7 @@ refused % detail %
 written %
 shown bytes % kind %";
     let numbers = [t.first, t.second as u64];
-    fill(rt, piece(texts, t.kind, b'\n'), &numbers)
+    fill(rt, piece(texts, t.kind as usize, b'\n'), &numbers)
 }
 
 pub fn case(rt: &impl Print, name: &[u8], t: Encoded) -> io::Result<()> {
