@@ -1,2 +1,3 @@
 -- The rewriter.
 pub mod Rewrite
+pub mod Reading
