@@ -6,8 +6,7 @@ use mathlib.Core.Path.{◌≡◌, ap, subst}
 use mathlib.Core.Bool.{cond}
 use Rattle.marks.specs.Marks.{Mode, hides}
 use Rattle.machine.specs.Run.{Progress, going, over}
-use Rattle.calls.specs.Calls.{Call, load, begin, advance, answer, abandon, write_back, rewrite, check}
-use Rattle.calls.specs.Calls.{Verdict}
+use Rattle.calls.specs.Calls.{Call, load, begin, advance, answer, abandon, write_back, rewrite, check, Verdict}
 use Rattle.calls.proofs.Permits.{not_done}
 use Rattle.runner.specs.declared.Runner.{Runner}
 use Rattle.runner.specs.Outcomes.{Reply, running, ended, runs, effect, progress_reply, outcome_by, call}

@@ -16,8 +16,7 @@ use Rattle.chart.specs.WriteBack.{file_length}
 use Rattle.chart_claims.proofs.RoundTrip.{file_again}
 use Rattle.chart_claims.proofs.Rules.{obeys_rules, stays_in_range}
 use Rattle.machine.specs.Run.{Progress, going, over}
-use Rattle.calls.specs.Calls.{Call, load, write_back, file_verdict, check}
-use Rattle.calls.specs.Calls.{Verdict}
+use Rattle.calls.specs.Calls.{Call, load, write_back, file_verdict, check, Verdict}
 use Rattle.calls.proofs.Permits.{write_back_fits}
 use Rattle.runner.specs.declared.Runner.{Runner}
 use Rattle.runner.specs.State.{chart_in, is_running, standing_of, idle, ended_with, dropped, ran, resumed}

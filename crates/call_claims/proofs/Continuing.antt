@@ -17,8 +17,7 @@ use Rattle.machine.specs.Run.{Run, Ending, valued, notice, spent, Progress, goin
 use Rattle.runs.specs.Whole.{disclosed}
 use Rattle.machine.proofs.Runs.{run_add, over_twice, AsBegun, run_as_begun}
 use Rattle.runs.proofs.Disclosed.{disclosed_by}
-use Rattle.calls.specs.Calls.{Call, load, begin, advance, answer, abandon, write_back, rewrite, refuse_if, check}
-use Rattle.calls.specs.Calls.{Verdict}
+use Rattle.calls.specs.Calls.{Call, load, begin, advance, answer, abandon, write_back, rewrite, refuse_if, check, Verdict}
 use Rattle.calls.proofs.Permits.{not_done, passed, advance_enough}
 use Rattle.runner.specs.declared.Runner.{Runner}
 use Rattle.runner.specs.State.{is_running, is_ended, least_in, standing_of, ending_in, run_in, ended_with, flow_in, ran, resumed}

@@ -12,9 +12,8 @@ use lib.Pow.{pow_pos, pow-lt}
 use lib.ListN.{length, length-set}
 use borrow.Author.Tests.{eqb-true}
 use Rattle.boxes.specs.Bytes.{box_of}
-use Rattle.format.specs.File.{header_of, in_range, check_file}
+use Rattle.format.specs.File.{header_of, in_range, check_file, Checked}
 use Rattle.format.specs.declared.Header.{Header}
-use Rattle.format.specs.File.{Checked}
 use Rattle.format.proofs.Passes.{passes}
 use Rattle.format.proofs.Ranges.{in_range_lem}
 use Rattle.chart.specs.Chart.{table_of, Chart, file_of}
@@ -32,8 +31,7 @@ use Rattle.machine.proofs.Runs.{run_keeps, goes_by, notice_by}
 use Rattle.runs.proofs.Disclosed.{disclosed_by}
 use Rattle.begin.specs.Begin.{effective}
 use Rattle.begin.proofs.Begins.{effective_positive, effective_fits, length_vars, length_marks, marks_all}
-use Rattle.calls.specs.Calls.{Call, load, begin, advance, answer, abandon, write_back, rewrite, file_verdict, check}
-use Rattle.calls.specs.Calls.{Verdict}
+use Rattle.calls.specs.Calls.{Call, load, begin, advance, answer, abandon, write_back, rewrite, file_verdict, check, Verdict}
 use Rattle.calls.proofs.Permits.{not_done, passed, permitted, advance_enough, rewrites_second}
 use Rattle.runner.specs.declared.Runner.{Runner}
 use Rattle.runner.specs.State.{chart_in, flowchart_in, is_held, is_running, is_ended, standing_of, ending_in, run_in, with_run, under_way, idle, new_runner, ended_with, dropped, flow_in, ran, resumed}

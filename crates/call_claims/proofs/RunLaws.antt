@@ -14,8 +14,7 @@ use Rattle.machine.specs.Run.{Run, Ending, Progress, going, over, run}
 use Rattle.runs.proofs.Disclosed.{disclosed_by, disclosed_all}
 use Rattle.begin.specs.Begin.{effective}
 use Rattle.begin.proofs.Begins.{effective_positive}
-use Rattle.calls.specs.Calls.{Call, load, begin, advance, answer, abandon, write_back, rewrite, check}
-use Rattle.calls.specs.Calls.{Verdict}
+use Rattle.calls.specs.Calls.{Call, load, begin, advance, answer, abandon, write_back, rewrite, check, Verdict}
 use Rattle.runner.specs.declared.Runner.{Runner}
 use Rattle.runner.specs.State.{chart_in, flowchart_in, is_running, least_in, standing_of, run_in, flow_in, ran, resumed}
 use Rattle.runs.specs.Whole.{finish, whole}

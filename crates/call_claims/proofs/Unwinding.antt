@@ -18,8 +18,7 @@ use Rattle.run_claims.proofs.Branches.{clash}
 use Rattle.run_claims.proofs.Counting.{Over, run_ends}
 use Rattle.run_claims.proofs.Lost.{lost_hidden}
 use Rattle.run_claims.proofs.Low.{Agree, with_vars, Watched, surveyed, unmarked, Low, same_run, runs_apart, both_lost, run_low}
-use Rattle.calls.specs.Calls.{Call, load, begin, advance, answer, abandon, write_back, rewrite, check}
-use Rattle.calls.specs.Calls.{Verdict}
+use Rattle.calls.specs.Calls.{Call, load, begin, advance, answer, abandon, write_back, rewrite, check, Verdict}
 use Rattle.calls.proofs.Permits.{advance_enough}
 use Rattle.runner.specs.declared.Runner.{Runner}
 use Rattle.runner.specs.State.{least_in, standing_of, run_in, with_run, ended_with, dropped, flow_in, ran, resumed}

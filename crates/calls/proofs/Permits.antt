@@ -12,10 +12,9 @@ use Rattle.block.specs.declared.Refusal.{Refusal}
 use Rattle.format.specs.File.{in_range}
 use Rattle.format.specs.declared.Header.{Header}
 use Rattle.chart.specs.WriteBack.{file_length, has_room}
-use Rattle.calls.specs.Calls.{begin, advance, write_back, rewrite, refuse_if, check}
+use Rattle.calls.specs.Calls.{begin, advance, write_back, rewrite, refuse_if, check, Verdict}
 use Rattle.calls.specs.declared.Standing.{Standing}
 use Rattle.std.specs.Prelude.{Ok, Err}
-use Rattle.calls.specs.Calls.{Verdict}
 
 pub not_done {ℓ} : {A : Type ℓ} {x : Refusal} → ◌≡◌ {A = Verdict} (Err x) (Ok tt) → A
 not_done e = let z : ◌≡◌ {A = ℕ} 0 1 = cc in absurd (omega arith)

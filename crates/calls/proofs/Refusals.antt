@@ -9,10 +9,9 @@ use borrow.Author.Tests.{lt-ltb, le-ltb, lt-leb, le-leb, eq-eqb, ne_eqb, not-fal
 use Rattle.block.specs.declared.Refusal.{Refusal}
 use Rattle.format.specs.File.{in_range}
 use Rattle.chart.specs.WriteBack.{file_length}
-use Rattle.calls.specs.Calls.{begin, advance, write_back, rewrite, refuse, at_rest, check}
+use Rattle.calls.specs.Calls.{begin, advance, write_back, rewrite, refuse, at_rest, check, Verdict}
 use Rattle.calls.specs.declared.Standing.{Standing}
 use Rattle.std.specs.Prelude.{Ok, Err}
-use Rattle.calls.specs.Calls.{Verdict}
 use Rattle.calls.proofs.Permits.{not_done, passed}
 
 -- What a begin and a rewriting ask first.

@@ -1,12 +1,10 @@
 -- "Show a box: needs no runner. It takes a file and a number and returns the ten bytes of that box
 -- as a part of the lent file, or an empty part exactly when load's input checks would refuse the
 -- file or the number isn't below n."
-use Rattle.std.specs.Prelude.{Ok, Err}
-use Rattle.std.specs.Prelude.{ℕ, ◌+◌, ◌≡◌, List, cond, ltb}
+use Rattle.std.specs.Prelude.{Ok, Err, ℕ, ◌+◌, ◌≡◌, List, cond, ltb}
 use Rattle.std.specs.Borrow.{Bor}
 use Rattle.boxes.specs.Bytes.{part}
-use Rattle.format.specs.File.{place_start, check_file}
-use Rattle.format.specs.File.{Checked}
+use Rattle.format.specs.File.{place_start, check_file, Checked}
 
 -- A part of a list: where it starts, and its size.
 pub record Span : Type 0 where

@@ -1,8 +1,7 @@
 -- The claims at their exact bounds, so that a claim whose bound is moved by one would be noticed
 -- here. Each is proved from the theorems of the claims that it is of; `EndsExchanged` needs besides
 -- that an accepted file has two blocks or more.
-use Rattle.std.specs.Prelude.{Ok, Err}
-use Rattle.std.specs.Prelude.{ℕ, ◌+◌, ◌≡◌, List, ◌⊎◌, ◌≢◌, true, length}
+use Rattle.std.specs.Prelude.{Ok, Err, ℕ, ◌+◌, ◌≡◌, List, ◌⊎◌, ◌≢◌, true, length}
 use Rattle.boxes.specs.Bytes.{at, part, all_zero, box_of}
 use Rattle.block.specs.Refusing.{refusal}
 use Rattle.format.specs.File.{blocks_of, block_of, box_rule, check_file}

@@ -1,8 +1,7 @@
 -- What is claimed of the definitions: the file's half of demand 2, the rules that a loaded chart
 -- obeys, that any chart which obeys them has a file that loads to it, what show a box shows, and
 -- the ranges of the numbers in a loaded chart.
-use Rattle.std.specs.Prelude.{Ok, Err}
-use Rattle.std.specs.Prelude.{ℕ, ◌≤◌, ◌<◌, ◌≡◌, List, ◌++◌, true, length, drop}
+use Rattle.std.specs.Prelude.{Ok, Err, ℕ, ◌≤◌, ◌<◌, ◌≡◌, List, ◌++◌, true, length, drop}
 use Rattle.boxes.specs.Bytes.{at, part, all_zero, box_of}
 use Rattle.format.specs.File.{is_edition, in_range, box_rule, check_file}
 use Rattle.format.specs.declared.Header.{Header}

@@ -1,8 +1,7 @@
 -- 02, d: "A chart joined from a ticket with its box blocks out of order loaded." In edition 2 it is
 -- refused. What changes places is whole blocks of 512 bytes, with their checks; a box block is any
 -- but block 0.
-use Rattle.std.specs.Prelude.{Ok, Err}
-use Rattle.std.specs.Prelude.{ℕ, ◌≤◌, ◌<◌, ◌≡◌, List, ◌≢◌, cond, eqb}
+use Rattle.std.specs.Prelude.{Ok, Err, ℕ, ◌≤◌, ◌<◌, ◌≡◌, List, ◌≢◌, cond, eqb}
 use Rattle.block.specs.Refusing.{refusal}
 use Rattle.format.specs.File.{addend, blocks_of, block_of, check_file}
 use Rattle.format.specs.declared.Header.{Header}

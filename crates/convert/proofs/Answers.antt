@@ -14,9 +14,8 @@ use borrow.Author.Tests.{lt-ltb, le-ltb, lt-leb, le-leb, leb-true, not-false}
 use Rattle.block.specs.Refusing.{refusal}
 use Rattle.block.specs.declared.Refusal.{Refusal}
 use Rattle.format.specs.Search.{first_failing}
-use Rattle.format.specs.File.{in_range, check_file}
+use Rattle.format.specs.File.{in_range, check_file, Checked}
 use Rattle.format.specs.declared.Header.{Header}
-use Rattle.format.specs.File.{Checked}
 use Rattle.format.proofs.Passes.{passed, passes}
 use Rattle.chart.specs.Chart.{table_of}
 use Rattle.chart.specs.WriteBack.{file_length, with_file, has_room, put_file}

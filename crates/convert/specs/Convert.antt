@@ -1,17 +1,14 @@
 -- 02, f: "The converter takes a whole file and a buffer and writes the other edition's file, with
 -- the same boxes in the same places, at the front of the buffer. Bytes past it stay untouched; the
 -- converter tells the file's length."
-use Rattle.std.specs.Prelude.{Ok, Err}
-use Rattle.std.specs.Prelude.{ℕ, List, Bool, cond, not, ◌&&◌, ◌||◌, eqb, ltb, length}
+use Rattle.std.specs.Prelude.{Ok, Err, ℕ, List, Bool, cond, not, ◌&&◌, ◌||◌, eqb, ltb, length}
 use Rattle.boxes.specs.Bytes.{at, box_of}
 use Rattle.boxes.specs.Box.{has_kind}
 use Rattle.format.specs.Search.{first_failing}
-use Rattle.format.specs.File.{refuse_if, check_file}
+use Rattle.format.specs.File.{refuse_if, check_file, Checked}
 use Rattle.format.specs.declared.Header.{Header}
-use Rattle.format.specs.File.{Checked}
 use Rattle.chart.specs.Chart.{table_of}
-use Rattle.chart.specs.WriteBack.{file_length, with_file, has_room}
-use Rattle.chart.specs.WriteBack.{Written}
+use Rattle.chart.specs.WriteBack.{file_length, with_file, has_room, Written}
 
 -- "the other edition", and the header of a chart in it.
 abbrev pub other_than : ℕ → ℕ

@@ -27,8 +27,7 @@ use Rattle.decode.proofs.Decoded.{box_here, box_past}
 use Rattle.marks.specs.Marks.{mode_of}
 use Rattle.machine.specs.Run.{Progress, going, over, run}
 use Rattle.runs.specs.Whole.{disclosed, whole}
-use Rattle.calls.specs.Calls.{Call, load, begin, advance, answer, abandon, write_back, rewrite, check}
-use Rattle.calls.specs.Calls.{Verdict}
+use Rattle.calls.specs.Calls.{Call, load, begin, advance, answer, abandon, write_back, rewrite, check, Verdict}
 use Rattle.calls.proofs.Permits.{rewrites_second}
 use Rattle.runner.specs.declared.Runner.{Runner}
 use Rattle.runner.specs.State.{flowchart_of, run_in, standing_of, runner_of, idle, ended_with, dropped, flow_in, ran, resumed}

@@ -13,10 +13,9 @@ use lib.Seq.{take_at}
 use Rattle.boxes.specs.Bytes.{box_of}
 use Rattle.boxes.proofs.Bools.{never_false}
 use Rattle.block.specs.Refusing.{refusal}
-use Rattle.format.specs.File.{header_of, is_edition, check_file}
+use Rattle.format.specs.File.{header_of, is_edition, check_file, Checked}
 use Rattle.format.specs.declared.Header.{Header}
 use Rattle.block.specs.declared.Refusal.{Refusal}
-use Rattle.format.specs.File.{Checked}
 use Rattle.format.proofs.Passes.{passes, refused_at_most_six}
 use Rattle.format.proofs.Search.{all_hold, none_fails, first_is, first_says}
 use Rattle.chart.specs.Chart.{table_of, file_of}

@@ -1,6 +1,5 @@
 -- Claims about the converter (02, f).
-use Rattle.std.specs.Prelude.{Ok, Err}
-use Rattle.std.specs.Prelude.{ℕ, ◌≤◌, ◌<◌, ◌≡◌, List, ◌∷◌, ◌++◌, ◌⊎◌, true, false, length, take, drop}
+use Rattle.std.specs.Prelude.{Ok, Err, ℕ, ◌≤◌, ◌<◌, ◌≡◌, List, ◌∷◌, ◌++◌, ◌⊎◌, true, false, length, take, drop}
 use Rattle.boxes.specs.Bytes.{at, box_of}
 use Rattle.boxes.specs.Box.{has_kind, well_formed}
 use Rattle.block.specs.Refusing.{refusal}

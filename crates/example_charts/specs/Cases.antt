@@ -1,10 +1,8 @@
 -- A case of the tables, what the definitions give for it, and what they are to give.
-use Rattle.std.specs.Prelude.{Ok, Err}
-use Rattle.std.specs.Prelude.{ℕ, ◌≡◌, List, [], ◌∷◌, ◌++◌, map, length, replicate}
+use Rattle.std.specs.Prelude.{Ok, Err, ℕ, ◌≡◌, List, [], ◌∷◌, ◌++◌, map, length, replicate}
 use Rattle.block.specs.Block.{checksum}
 use Rattle.block.specs.Refusing.{refusal}
-use Rattle.format.specs.File.{header_of, check_file}
-use Rattle.format.specs.File.{Checked}
+use Rattle.format.specs.File.{header_of, check_file, Checked}
 use Rattle.chart.specs.WriteBack.{Written}
 use Rattle.convert.specs.Convert.{Conversion, conversion, convert}
 use Rattle.operations.specs.Operation.{read_by, value_of}

@@ -1,7 +1,6 @@
 -- The converter (02, f), in one table: charts of both editions, buffers too short, as long as the
 -- file and longer, and refusals by 14, by 12 and by load's checks 2 and 6.
-use Rattle.std.specs.Prelude.{Ok, Err}
-use Rattle.std.specs.Prelude.{ℕ, List, [], ◌∷◌, ◌++◌, replicate, set}
+use Rattle.std.specs.Prelude.{Ok, Err, ℕ, List, [], ◌∷◌, ◌++◌, replicate, set}
 use Rattle.block.specs.Refusing.{refusal}
 use Rattle.example_charts.specs.Charts.{block, front, assign, decide, halt, halts, chart_a, chart_a_two, chart_d, head_e, sum_two, zeros_one, zeros_two, three_one, three_two}
 use Rattle.example_charts.specs.Cases.{Case, converts, Table}

@@ -1,8 +1,7 @@
 -- Kind 4 and the rewriter (02, g), in one table: what files with kind 4 are answered, what their
 -- boxes read and give, which decisions are replaced and which stay, and what runs come to before
 -- and after.
-use Rattle.std.specs.Prelude.{Ok, Err}
-use Rattle.std.specs.Prelude.{ℕ, List, [], ◌∷◌, ◌++◌}
+use Rattle.std.specs.Prelude.{Ok, Err, ℕ, List, [], ◌∷◌, ◌++◌}
 use Rattle.block.specs.Refusing.{refusal}
 use Rattle.marks.specs.Marks.{bare, surveillance, high_water}
 use Rattle.machine.specs.Run.{valued, notice, spent}

@@ -13,9 +13,8 @@ use Rattle.boxes.specs.Bytes.{at, part, all_zero}
 use Rattle.block.specs.Refusing.{refusal}
 use Rattle.block.specs.declared.Refusal.{Refusal}
 use Rattle.format.specs.Search.{first_failing}
-use Rattle.format.specs.File.{blocks_of, blocks_for, header_of, is_edition, in_range, length_rule, check_rule, letters_rule, header_rule, place_rule, refuse_if, check_file}
+use Rattle.format.specs.File.{blocks_of, blocks_for, header_of, is_edition, in_range, length_rule, check_rule, letters_rule, header_rule, place_rule, refuse_if, check_file, Checked}
 use Rattle.format.specs.declared.Header.{Header}
-use Rattle.format.specs.File.{Checked}
 use Rattle.boxes.proofs.Bools.{and_left, and_right, every}
 use Rattle.format.proofs.Search.{all_hold}
 use Rattle.format.proofs.Places.{blocks_of_lem}

@@ -8,8 +8,7 @@ use lib.Dec.{eqb}
 use Rattle.boxes.specs.Bytes.{at, part}
 use Rattle.chart.specs.Chart.{Chart}
 use Rattle.begin.proofs.Begins.{effective_fits}
-use Rattle.calls.specs.Calls.{answer, check}
-use Rattle.calls.specs.Calls.{Verdict}
+use Rattle.calls.specs.Calls.{answer, check, Verdict}
 use Rattle.line.specs.Parsing.{parse}
 use Rattle.line.specs.declared.parsing.Numbers.{Numbers}
 use Rattle.texts.specs.Printing.{refused_text}

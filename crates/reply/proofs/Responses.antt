@@ -10,8 +10,7 @@ use borrow.Author.Tests.{eq-eqb, ne_eqb}
 use Rattle.io.specs.Counts.{IsPrefixLen}
 use Rattle.texts.proofs.Fronts.{printed_counts}
 use Rattle.block.specs.declared.Refusal.{Refusal}
-use Rattle.calls.specs.Calls.{advance, answer}
-use Rattle.calls.specs.Calls.{Verdict}
+use Rattle.calls.specs.Calls.{advance, answer, Verdict}
 use Rattle.line.specs.Parsing.{parse}
 use Rattle.texts.specs.Printing.{chart_text, refused_text, printed, printed_length}
 use Rattle.line.specs.declared.parsing.Numbers.{Numbers}

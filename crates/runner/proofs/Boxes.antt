@@ -1,7 +1,7 @@
 -- The loop of advance: what the box at hand does, by the act that the code computed of it, how the
 -- run ends or goes on after it, and what advance leaves and tells where the loop is left. Assumes
 -- nothing.
-use Rattle.std.specs.Prelude.{Ok, Err}
+use Rattle.std.specs.Prelude.{Result, Ok, Err}
 use Prim.Native.Nat.{ℕ, zero, suc, ◌+◌, ◌-◌, ◌*◌, ◌%◌, ◌^◌, ◌<◌, ◌≤◌}
 use mathlib.Core.Path.{◌≡◌, refl, ap, sym, ◌∙◌, subst}
 use mathlib.Core.Logic.{◌⊎◌, inl, inr, ⊎_elim}
@@ -32,11 +32,10 @@ use Rattle.machine.specs.declared.Act.{Act}
 use Rattle.machine.specs.declared.Act.TheVariants.{Store}
 use Rattle.machine.proofs.Acts.{SixteenInputs, sixteen_set, act_by_masks, StoresSixteen, stores_sixteen}
 use Rattle.machine.proofs.Runs.{over_still, run_one, run_none, goes_spent, goes_further}
-use Rattle.calls.specs.Calls.{by_verdict, check}
+use Rattle.calls.specs.Calls.{by_verdict, check, Verdict}
 use Rattle.calls.specs.Calls as calls
-use Rattle.calls.specs.Calls.{Verdict}
 use Rattle.runner.specs.declared.Runner.{Runner}
-use Rattle.runner.specs.declared.AdvanceTold.{AdvanceTold}
+use Rattle.runner.specs.declared.Advanced.{Advanced}
 use Rattle.runner.specs.declared.Portion.{Portion}
 use Rattle.runner.specs.declared.Remains.{Remains}
 use Rattle.runner.specs.State.{chart_in, standing_of, state_of, runner_of, run_in, with_run, no_run, ended_with, flow_in, resumed}
@@ -282,7 +281,7 @@ disclosed_reply m e steps =
     disclosed_by (λ (x : Progress). outcomes.ended (cond (hides m) 0 steps) ≡ progress_reply m x) m (over e steps) refl (λ h. rw h)
 
 -- What advance leaves and tells where its boxes have come to s.
-module _ (m todo : ℕ) (r s next : Runner) (at end value named steps : ℕ) (told : AdvanceTold) (h : Stored r s)
+module _ (m todo : ℕ) (r s next : Runner) (at end value named steps : ℕ) (told : Result Advanced Refusal) (h : Stored r s)
     (came : CameTo (flow_in r) todo (run_in r) s at end value named steps)
     (stays : end ≡ 1 → next ≡ stands_at s at steps) (hidden : Bool) (hides-as : hidden ≡ hides (mode_of r.mode))
     (ends : (end ≡ 1 → ⊥) → next ≡ ends_with s (keeps hidden end steps named) value) where

@@ -1,6 +1,6 @@
 -- The outcome of each call, case by case, over plain variables: what the proof of a method cites
 -- where it returns. Assumes nothing.
-use Rattle.std.specs.Prelude.{Ok, Err}
+use Rattle.std.specs.Prelude.{Result, Ok, Err}
 use Prim.Native.Nat.{ℕ, ◌≤◌, ◌<◌}
 use mathlib.Core.Path.{◌≡◌, ap, sym, ◌∙◌}
 use mathlib.Core.List.{List, []}
@@ -17,14 +17,13 @@ use Rattle.rewrite.specs.Rewrite.{rewritten}
 use Rattle.marks.specs.Marks.{mode_of}
 use Rattle.machine.specs.Run.{Progress}
 use Rattle.begin.specs.Begin.{effective, first_vars, first_marks}
-use Rattle.calls.specs.Calls.{Call, refuse, file_verdict, check}
+use Rattle.calls.specs.Calls.{Call, refuse, file_verdict, check, Verdict}
 use Rattle.calls.specs.Calls as calls
-use Rattle.calls.specs.Calls.{Verdict}
 use Rattle.calls.proofs.Permits.{write_back_fits}
 use Rattle.runner.specs.declared.Runner.{Runner}
-use Rattle.runner.specs.declared.LoadTold.TheVariants as load
-use Rattle.runner.specs.declared.AdvanceTold.{AdvanceTold}
-use Rattle.runner.specs.declared.AnswerTold.TheVariants as answer
+use Rattle.runner.specs.declared.Loaded.{Loaded}
+use Rattle.runner.specs.declared.Advanced.{Advanced}
+use Rattle.runner.specs.declared.Answered.TheVariants as answer
 use Rattle.runner.specs.State.{chart_in, standing_of, ending_in, under_way, idle, dropped, ran, resumed}
 use Rattle.runner.specs.Outcomes.{outcome, after, progress_reply, says, outcome_by, call}
 use Rattle.runner.specs.Outcomes as outcomes
@@ -36,20 +35,20 @@ by_verdict_lem c r v e = sym (ap (λ (x : Verdict). outcome_by x c r) e)
 
 -- Load.
 module _ (file : List ℕ) (r : Runner) where
-  pub load_busy : (x : Refusal) → x ≡ refusal 22 0 → r.state ≡ 1 → outcome (load_reply (load.Refused x)) [] r ≡ call (calls.load file) r
+  pub load_busy : (x : Refusal) → x ≡ refusal 22 0 → r.state ≡ 1 → outcome (load_reply (Err x)) [] r ≡ call (calls.load file) r
   unfolding check load_reply outcome_by
   load_busy x d e = ap (λ (y : Refusal). outcome (outcomes.turned_away y) [] r) d ∙ by_verdict_lem (calls.load file) r (refuse 22) (rw e)
 
   pub load_accepts : (h : Header) (table : List ℕ) (next : Runner) → (r.state ≡ 1 → ⊥) → check_file file ≡ Ok h → table ≡ table_of file
       → next ≡ idle (record { header = h; table = table })
-      → outcome (load_reply (load.Chart h.inputs h.boxes)) [] next ≡ call (calls.load file) r
+      → outcome (load_reply (Ok (record { inputs = h.inputs; boxes = h.boxes }))) [] next ≡ call (calls.load file) r
   unfolding check file_verdict load_reply outcome_by says after
   load_accepts h table next n e t d =
       ap (outcome (outcomes.chart h.inputs h.boxes) []) (d ∙ ap (λ (x : List ℕ). idle (record { header = h; table = x })) t)
       ∙ ap (λ (x : Header). outcome (outcomes.chart x.inputs x.boxes) [] (idle (record { header = x; table = table_of file }))) (passes file h e).header
       ∙ by_verdict_lem (calls.load file) r (Ok tt) (rw (ne_eqb _ _ n, e))
 
-  pub load_refuses : (x : Refusal) → (r.state ≡ 1 → ⊥) → check_file file ≡ Err x → outcome (load_reply (load.Refused x)) [] r ≡ call (calls.load file) r
+  pub load_refuses : (x : Refusal) → (r.state ≡ 1 → ⊥) → check_file file ≡ Err x → outcome (load_reply (Err x)) [] r ≡ call (calls.load file) r
   unfolding check file_verdict load_reply outcome_by
   load_refuses x n e = by_verdict_lem (calls.load file) r (Err x) (rw (ne_eqb _ _ n, e))
 
@@ -77,7 +76,7 @@ module _ (mode : ℕ) (inputs : List ℕ) (allowed limit : ℕ) (r : Runner) whe
       ap (λ (y : Verdict). outcome (verdict_reply y) [] r) d ∙ by_verdict_lem (calls.begin mode inputs allowed limit) r (Err x) (sym e ∙ d)
 
 -- Advance: a run that has come to something, and one that is refused.
-module _ (m : ℕ) (r next : Runner) (told : AdvanceTold) where
+module _ (m : ℕ) (r next : Runner) (told : Result Advanced Refusal) where
   pub advance_runs : (p : Progress) → check (calls.advance m) (standing_of r) ≡ Ok tt → ran m r ≡ p → advance_reply told ≡ progress_reply (mode_of r.mode) p
       → next ≡ resumed p r
       → outcome (advance_reply told) [] next ≡ call (calls.advance m) r
@@ -106,7 +105,7 @@ module _ (r : Runner) where
   unfolding check verdict_reply outcome_by says after
   abandon_drops q e d = ap (outcome outcomes.done []) d ∙ by_verdict_lem calls.abandon r (Ok tt) (rw e)
 
-  pub answer_refuses : (x : Refusal) → x ≡ refusal 24 0 → r.state < 2 → outcome (answer_reply (answer.Refused x)) [] r ≡ call calls.answer r
+  pub answer_refuses : (x : Refusal) → x ≡ refusal 24 0 → r.state < 2 → outcome (answer_reply (Err x)) [] r ≡ call calls.answer r
   unfolding check answer_reply outcome_by
   answer_refuses x d l = ap (λ (y : Refusal). outcome (outcomes.turned_away y) [] r) d ∙ by_verdict_lem calls.answer r (refuse 24) (rw (lt-leb _ _ l))
 
@@ -114,15 +113,15 @@ module _ (r : Runner) where
   unfolding check outcome_by says after
   answer_tells l = by_verdict_lem calls.answer r (Ok tt) (rw (le-leb _ _ l))
 
-  pub answer_value : 2 ≤ r.state → r.state ≡ 2 → outcome (answer_reply (answer.Value r.value r.total)) [] r ≡ call calls.answer r
+  pub answer_value : 2 ≤ r.state → r.state ≡ 2 → outcome (answer_reply (Ok (answer.Value r.value r.total))) [] r ≡ call calls.answer r
   unfolding answer_reply
   answer_value l e = sym (rw (eq-eqb _ _ e)) ∙ answer_tells l
 
-  pub answer_notice : 2 ≤ r.state → r.state ≡ 3 → outcome (answer_reply (answer.Notice r.named r.total)) [] r ≡ call calls.answer r
+  pub answer_notice : 2 ≤ r.state → r.state ≡ 3 → outcome (answer_reply (Ok (answer.Notice r.named r.total))) [] r ≡ call calls.answer r
   unfolding answer_reply
   answer_notice l e = sym (rw e) ∙ answer_tells l
 
-  pub answer_spent : 2 ≤ r.state → (r.state ≡ 2 → ⊥) → (r.state ≡ 3 → ⊥) → outcome (answer_reply (answer.Spent r.total)) [] r ≡ call calls.answer r
+  pub answer_spent : 2 ≤ r.state → (r.state ≡ 2 → ⊥) → (r.state ≡ 3 → ⊥) → outcome (answer_reply (Ok (answer.Spent r.total))) [] r ≡ call calls.answer r
   unfolding answer_reply
   answer_spent l n m = sym (rw (ne_eqb _ _ n, ne_eqb _ _ m)) ∙ answer_tells l
 

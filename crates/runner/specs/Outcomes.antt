@@ -1,7 +1,6 @@
 -- The seven calls, by one definition: what refuses a call, and else what it tells, the lent buffer
 -- and the runner afterwards.
-use Rattle.std.specs.Prelude.{Ok, Err}
-use Rattle.std.specs.Prelude.{ℕ, List, [], cond}
+use Rattle.std.specs.Prelude.{Ok, Err, ℕ, List, [], cond}
 use Rattle.format.specs.File.{header_of}
 use Rattle.block.specs.declared.Refusal.{Refusal}
 use Rattle.chart.specs.Chart.{Chart, chart_of}
@@ -11,8 +10,7 @@ use Rattle.marks.specs.Marks.{Mode, mode_of, hides}
 use Rattle.machine.specs.Run.{Run, Ending, Progress, going, over}
 use Rattle.begin.specs.Begin.{effective}
 use Rattle.runs.specs.Whole.{Flowchart, start_of}
-use Rattle.calls.specs.Calls.{Call, load, begin, advance, answer, abandon, write_back, rewrite, check}
-use Rattle.calls.specs.Calls.{Verdict}
+use Rattle.calls.specs.Calls.{Call, load, begin, advance, answer, abandon, write_back, rewrite, check, Verdict}
 use Rattle.runner.specs.declared.Runner.{Runner}
 use Rattle.runner.specs.State.{chart_in, flowchart_in, standing_of, ending_in, under_way, idle, dropped, ran, resumed}
 

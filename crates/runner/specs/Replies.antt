@@ -1,36 +1,42 @@
--- What the code's answers tell, one definition for each enum: document 01's number, detail and
+-- What the code's answers tell, one definition for each type: document 01's number, detail and
 -- values for every case.
-use Rattle.std.specs.Prelude.{Ok, Err}
+use Rattle.std.specs.Prelude.{Result, Ok, Err, ⊤}
+use Rattle.block.specs.declared.Refusal.{Refusal}
 use Rattle.chart.specs.WriteBack.{Written}
 use Rattle.machine.specs.Run.{valued, notice, spent}
 use Rattle.calls.specs.Calls.{Verdict}
 use Rattle.runner.specs.Outcomes.{Reply, done, chart, running, ended, ending, wrote, turned_away}
-use Rattle.runner.specs.declared.LoadTold.{LoadTold}
-use Rattle.runner.specs.declared.LoadTold.TheVariants as load
-use Rattle.runner.specs.declared.AdvanceTold.{AdvanceTold}
-use Rattle.runner.specs.declared.AdvanceTold.TheVariants as advance
-use Rattle.runner.specs.declared.AnswerTold.{AnswerTold}
-use Rattle.runner.specs.declared.AnswerTold.TheVariants as answer
+use Rattle.runner.specs.declared.Loaded.{Loaded}
+use Rattle.runner.specs.declared.Advanced.{Advanced}
+use Rattle.runner.specs.declared.Advanced.TheVariants.{Running, Ended}
+use Rattle.runner.specs.declared.Answered.{Answered}
+use Rattle.runner.specs.declared.Answered.TheVariants.{Value, Notice, Spent}
 
-unfoldable pub load_reply : LoadTold → Reply
-load_reply (load.Chart inputs boxes) = chart inputs boxes
-load_reply (load.Refused x) = turned_away x
+-- What is told of a call: what it tells where it is done, or its refusal.
+abbrev pub reply_by : {A : Type 0} → (A → Reply) → Result A Refusal → Reply
+reply_by tells (Ok told) = tells told
+reply_by tells (Err x) = turned_away x
+
+unfoldable pub load_reply : Result Loaded Refusal → Reply
+load_reply told = reply_by (λ (c : Loaded). chart c.inputs c.boxes) told
 
 unfoldable pub verdict_reply : Verdict → Reply
-verdict_reply (Ok _) = done
-verdict_reply (Err x) = turned_away x
+verdict_reply told = reply_by (λ (u : ⊤). done) told
 
-unfoldable pub advance_reply : AdvanceTold → Reply
-advance_reply (advance.Running steps) = running steps
-advance_reply (advance.Ended steps) = ended steps
-advance_reply (advance.Refused x) = turned_away x
+abbrev pub progress_told : Advanced → Reply
+progress_told (Running steps) = running steps
+progress_told (Ended steps) = ended steps
 
-unfoldable pub answer_reply : AnswerTold → Reply
-answer_reply (answer.Value v steps) = ending (valued v) steps
-answer_reply (answer.Notice named steps) = ending (notice named) steps
-answer_reply (answer.Spent steps) = ending spent steps
-answer_reply (answer.Refused x) = turned_away x
+unfoldable pub advance_reply : Result Advanced Refusal → Reply
+advance_reply told = reply_by progress_told told
+
+abbrev pub ending_told : Answered → Reply
+ending_told (Value v steps) = ending (valued v) steps
+ending_told (Notice named steps) = ending (notice named) steps
+ending_told (Spent steps) = ending spent steps
+
+unfoldable pub answer_reply : Result Answered Refusal → Reply
+answer_reply told = reply_by ending_told told
 
 unfoldable pub written_reply : Written → Reply
-written_reply (Ok bytes) = wrote bytes
-written_reply (Err x) = turned_away x
+written_reply told = reply_by wrote told

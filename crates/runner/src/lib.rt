@@ -2,7 +2,6 @@
 #![tactic(auto)]
 
 ghost use Rattle.std.specs.Prelude.{◌≡◌, cond, [], ◌-◌, eqb, ltb, leb};
-ghost use Rattle.block.specs.Refusing.{refusal};
 ghost use Rattle.marks.specs.Marks.{mode_of, hides};
 ghost use Rattle.calls.specs.Calls.{load, begin, advance, answer, abandon, write_back, rewrite, by_verdict};
 ghost use Rattle.runner.specs.State.{running_state, value_state, notice_state, spent_state, new_runner, dropped};
@@ -10,10 +9,9 @@ ghost use Rattle.runner.specs.Outcomes.{outcome, turned_away, call};
 ghost use Rattle.runner.specs.Outcomes as outcomes;
 ghost use Rattle.runner.specs.Replies.{load_reply, verdict_reply, advance_reply, answer_reply, written_reply};
 
-use block::Refusal;
-use calls::{Standing, Verdict};
-use chart::Written;
-use format::{Checked, Header};
+use block::{Reason, Refusal};
+use calls::Standing;
+use format::Header;
 use machine::Act;
 
 // The states of a runner: no run, a run under way, and a run that has ended with a value, a notice
@@ -50,54 +48,33 @@ pub struct Runner {
     marks: [u16; 32],
 }
 
-// What load tells.
+// The runner that follows a call, and what the call tells.
 #[derive(Clone, Copy)]
-pub enum LoadTold {
-    Chart { inputs: u8, boxes: u8 },
-    Refused(Refusal),
+pub struct Called<T> {
+    pub runner: Runner,
+    pub told: Result<T, Refusal>,
 }
 
-#[derive(Clone, Copy)]
+// What load tells: the numbers of inputs and boxes.
+#[derive(Clone, Copy, Debug, PartialEq, Eq)]
 pub struct Loaded {
-    pub runner: Runner,
-    pub told: LoadTold,
-}
-
-// A begin, an abandon or a rewriting.
-#[derive(Clone, Copy)]
-pub struct Changed {
-    pub runner: Runner,
-    pub told: Verdict,
+    pub inputs: u8,
+    pub boxes: u8,
 }
 
 // What advance tells: running or ended, and the steps so far.
-#[derive(Clone, Copy)]
-pub enum AdvanceTold {
+#[derive(Clone, Copy, Debug, PartialEq, Eq)]
+pub enum Advanced {
     Running(u32),
     Ended(u32),
-    Refused(Refusal),
-}
-
-#[derive(Clone, Copy)]
-pub struct Advanced {
-    pub runner: Runner,
-    pub told: AdvanceTold,
 }
 
 // What answer tells: the ending.
-#[derive(Clone, Copy)]
-pub enum AnswerTold {
+#[derive(Clone, Copy, Debug, PartialEq, Eq)]
+pub enum Answered {
     Value { value: u32, steps: u32 },
     Notice { named: u16, steps: u32 },
     Spent(u32),
-    Refused(Refusal),
-}
-
-// A refusal whose detail is 0.
-fn refusal(number: u32) -> Refusal
-    ensures { result ≡ refusal number 0 }
-{
-    Refusal { number, detail: 0 }
 }
 
 impl Runner {
@@ -147,64 +124,66 @@ impl Runner {
 
     // The chart of a file replaces the one held.
     #[tactic(auto, using(crate::proofs::Outcomes::load_busy))]
-    pub fn load(mut self, file: &[u8]) -> Loaded
+    pub fn load(mut self, file: &[u8]) -> Called<Loaded>
         ensures { outcome (load_reply result.told) [] result.runner ≡ call (load file.now) self }
     {
         if self.state == RUNNING {
-            let told = LoadTold::Refused(refusal(22));
-            return Loaded { told, runner: self };
+            let told = Err(Reason::UnderWay.into());
+            return Called { told, runner: self };
         }
-        let checked = format::check_file(file);
-        match checked {
-            Checked::Accepted(header) => {
+        match format::check_file(file) {
+            Ok(header) => {
                 let table = chart::table_of(file);
                 self.header = header;
                 self.table = table;
-                let told = LoadTold::Chart {
+                let told = Ok(Loaded {
                     inputs: header.inputs,
                     boxes: header.boxes,
-                };
+                });
                 let runner = self.dropped();
-                Loaded { told, runner }
+                Called { told, runner }
             }
-            Checked::Refused(refusal) => Loaded {
-                told: LoadTold::Refused(refusal),
+            Err(refusal) => Called {
+                told: Err(refusal),
                 runner: self,
             },
         }
     }
 
     // A run on the held chart, which forgets an earlier ending.
-    pub fn begin(mut self, mode: u32, inputs: &[u32], allowed: u32, limit: u32) -> Changed
+    pub fn begin(mut self, mode: u32, inputs: &[u32], allowed: u32, limit: u32) -> Called<()>
         ensures { outcome (verdict_reply result.told) [] result.runner ≡ call (begin mode inputs.now allowed limit) self }
     {
         let header = self.header;
         let standing = standing_of(header, self.state, self.mode, self.limit);
-        let told = calls::check_begin(standing, mode, inputs, allowed, limit);
-        match told {
-            Verdict::Done => {
-                let vars = begin::first_vars(inputs);
-                let marks = begin::first_marks(allowed, header.inputs);
-                self.vars = vars;
-                self.marks = marks;
-                self.counter = 0;
-                self.mode = mode as u8;
-                self.at = header.first;
-                self.limit = begin::effective(limit) as u16;
-                self.steps = 0;
-                self.state = RUNNING;
-                self.total = 0;
-                self.value = 0;
-                self.named = 0;
-            }
-            Verdict::Refused(_) => {}
+        if let Err(refusal) = calls::check_begin(standing, mode, inputs, allowed, limit) {
+            return Called {
+                told: Err(refusal),
+                runner: self,
+            };
         }
-        Changed { told, runner: self }
+        let vars = begin::first_vars(inputs);
+        let marks = begin::first_marks(allowed, header.inputs);
+        self.vars = vars;
+        self.marks = marks;
+        self.counter = 0;
+        self.mode = mode as u8;
+        self.at = header.first;
+        self.limit = begin::effective(limit) as u16;
+        self.steps = 0;
+        self.state = RUNNING;
+        self.total = 0;
+        self.value = 0;
+        self.named = 0;
+        Called {
+            told: Ok(()),
+            runner: self,
+        }
     }
 
     // Runs m boxes, or fewer if the run ends, and tells which. `end` is the state that the run
     // comes to where no box ends it before; it is RUNNING where the run has not ended.
-    pub fn advance(mut self, m: u32) -> Advanced
+    pub fn advance(mut self, m: u32) -> Called<Advanced>
         ensures { outcome (advance_reply result.told) [] result.runner ≡ call (advance m) self }
     {
         let standing = standing_of(self.header, self.state, self.mode, self.limit);
@@ -284,79 +263,77 @@ impl Runner {
             self.named = ending.named;
         }
         let told = tell(verdict, hidden, end, steps);
-        Advanced { told, runner: self }
+        Called { told, runner: self }
     }
 
     // Drops the run under way.
-    pub fn abandon(self) -> Changed
+    pub fn abandon(self) -> Called<()>
         ensures { outcome (verdict_reply result.told) [] result.runner ≡ call abandon self }
     {
         if self.state != RUNNING {
-            return Changed {
-                told: calls::refuse(23),
+            return Called {
+                told: Err(Reason::NoRun.into()),
                 runner: self,
             };
         }
-        Changed {
-            told: Verdict::Done,
+        Called {
+            told: Ok(()),
             runner: self.dropped(),
         }
     }
 
     // The ending. The runner that follows is the one lent: nothing is handed back.
     #[tactic(auto, using(crate::proofs::Outcomes::answer_refuses, crate::proofs::Outcomes::answer_value, crate::proofs::Outcomes::answer_notice, crate::proofs::Outcomes::answer_spent))]
-    pub fn answer(self) -> AnswerTold
+    pub fn answer(self) -> Result<Answered, Refusal>
         ensures { outcome (answer_reply result) [] self ≡ call answer self }
     {
         let state = self.state;
         let steps = self.total;
         if state < VALUE {
-            return AnswerTold::Refused(refusal(24));
+            return Err(Reason::NoEnding.into());
         }
-        match state {
-            VALUE => AnswerTold::Value {
+        Ok(match state {
+            VALUE => Answered::Value {
                 value: self.value,
                 steps,
             },
-            NOTICE => AnswerTold::Notice {
+            NOTICE => Answered::Notice {
                 named: self.named,
                 steps,
             },
-            _ => AnswerTold::Spent(steps),
-        }
+            _ => Answered::Spent(steps),
+        })
     }
 
     // The file of the held chart at the front of a lent buffer. The runner that follows is the one
     // lent.
-    pub fn write_back(self, buf: &mut [u8]) -> Written
+    pub fn write_back(self, buf: &mut [u8]) -> Result<usize, Refusal>
         ensures { outcome (written_reply result) buf.new self ≡ call (write_back buf.old) self }
     {
         let header = self.header;
         let standing = standing_of(header, self.state, self.mode, self.limit);
-        let verdict = calls::check_write_back(standing, buf);
-        match verdict {
-            Verdict::Done => {
-                let table = self.table;
-                chart::put_file(header, &table, buf);
-                Written::Length(chart::file_length(header))
-            }
-            Verdict::Refused(refusal) => Written::Refused(refusal),
-        }
+        calls::check_write_back(standing, buf)?;
+        let table = self.table;
+        chart::put_file(header, &table, buf);
+        Ok(chart::file_length(header))
     }
 
     // The chart held, rewritten, in its own place; an ended run is forgotten.
-    pub fn rewrite(mut self) -> Changed
+    pub fn rewrite(mut self) -> Called<()>
         ensures { outcome (verdict_reply result.told) [] result.runner ≡ call rewrite self }
     {
         let header = self.header;
-        let told = calls::check_rewrite(standing_of(header, self.state, self.mode, self.limit));
-        match told {
-            Verdict::Done => {
-                rewrite::rewrite(&mut self.table);
-                let runner = self.dropped();
-                Changed { told, runner }
-            }
-            Verdict::Refused(_) => Changed { told, runner: self },
+        let standing = standing_of(header, self.state, self.mode, self.limit);
+        if let Err(refusal) = calls::check_rewrite(standing) {
+            return Called {
+                told: Err(refusal),
+                runner: self,
+            };
+        }
+        rewrite::rewrite(&mut self.table);
+        Called {
+            told: Ok(()),
+            runner: self.dropped(),
         }
     }
 }
@@ -383,12 +360,12 @@ fn select(b: bool, yes: u32, no: u32) -> u32
 }
 
 // How many boxes an advance by m may run, by the verdict on it.
-fn amount(verdict: Verdict, m: u32) -> u32
+fn amount(verdict: Result<(), Refusal>, m: u32) -> u32
     ensures { result ≡ by_verdict verdict m (λ x. 0) }
 {
     match verdict {
-        Verdict::Done => m,
-        Verdict::Refused(_) => 0,
+        Ok(()) => m,
+        Err(_) => 0,
     }
 }
 
@@ -463,16 +440,12 @@ fn disclose(hidden: bool, state: u8, total: u32, named: u16) -> Remains
 
 // What advance tells by the verdict on it, of a run that has come to state `end` where it was
 // accepted.
-fn tell(verdict: Verdict, hidden: bool, end: u8, steps: u32) -> AdvanceTold
+fn tell(verdict: Result<(), Refusal>, hidden: bool, end: u8, steps: u32) -> Result<Advanced, Refusal>
     ensures { advance_reply result ≡ by_verdict verdict (cond (eqb end running_state) (outcomes.running steps) (outcomes.ended (cond hidden 0 steps))) turned_away }
 {
-    match verdict {
-        Verdict::Done => {
-            if end == RUNNING {
-                return AdvanceTold::Running(steps);
-            }
-            AdvanceTold::Ended(select(hidden, 0, steps))
-        }
-        Verdict::Refused(refusal) => AdvanceTold::Refused(refusal),
+    verdict?;
+    if end == RUNNING {
+        return Ok(Advanced::Running(steps));
     }
+    Ok(Advanced::Ended(select(hidden, 0, steps)))
 }

@@ -9,9 +9,9 @@ pub returns-in-Ok : goal.returns-in-Ok
 unfolding dropped
 returns-in-Ok c =
     load_accepts _ _ _ _ c.dropped-runner.result (search rules)
-    (sym c.check_file-checked.ensures ∙ c.in-Ok.is)
+    (sym c.check_file.ensures ∙ c.in-Ok.is)
     c.table_of-table.ensures
     c.dropped-runner.ensures
 
 pub returns-in-Err : goal.returns-in-Err
-returns-in-Err c = load_refuses _ _ _ (search rules) (sym c.check_file-checked.ensures ∙ c.in-Err.is)
+returns-in-Err c = load_refuses _ _ _ (search rules) (sym c.check_file.ensures ∙ c.in-Err.is)

@@ -1,18 +1,18 @@
 -- Where the rules let it pass, the file is put into the buffer; else the buffer stays.
-use mathlib.Core.Path.{ap, sym, ◌∙◌}
+use mathlib.Core.Path.{refl, ap, sym, ◌∙◌}
+use borrow.Author.Rules.{rules}
 use Rattle.calls.specs.Calls.{check}
+use Rattle.runner.specs.Replies.{written_reply}
 use Rattle.runner.proofs.Outcomes.{write_back_accepts, write_back_refuses}
 use Rattle.runner.proofs.Runner.write_back.Goals as goal
 
-pub returns-in-Ok : goal.returns-in-Ok
-returns-in-Ok c =
-    let r = c.args.self in
-    write_back_accepts r c.file_length.result _ _
-    (sym c.in-Ok.is ∙ c.check_write_back-verdict.ensures ∙ ap (check _) c.standing_of-standing.ensures)
-    c.file_length.ensures.0 c.put_file.ensures
+pub returns-in_err-check_write_back : goal.returns-in_err-check_write_back
+returns-in_err-check_write_back c =
+    let refused = write_back_refuses c.args.self _ _ c.args.buf.now (sym c.in_err-check_write_back.was ∙ c.check_write_back.ensures ∙ ap (check _) c.standing_of-standing.ensures) refl in
+    search rules
 
-pub returns-in-Err : goal.returns-in-Err
-returns-in-Err c =
-    let r = c.args.self in
-    write_back_refuses r c.check_write_back-verdict.result _ _ (c.check_write_back-verdict.ensures ∙ ap (check _) c.standing_of-standing.ensures)
-    c.in-Err.is
+pub returns : goal.returns
+returns c =
+    write_back_accepts c.args.self c.file_length.result _ _
+    (sym c.in_ok-check_write_back.was ∙ c.check_write_back.ensures ∙ ap (check _) c.standing_of-standing.ensures)
+    c.file_length.ensures.0 c.put_file.ensures
