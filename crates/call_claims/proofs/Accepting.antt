@@ -1,12 +1,13 @@
 -- What an accepted call does, which one runs boxes and what it tells, and that a run under way is
 -- not answered. Assumes nothing.
-use Rattle.std.specs.Prelude.{Ok, Err}
+use Rattle.std.specs.Prelude.{Ok, Err, Result, ⊤}
+use Rattle.block.specs.declared.Refusal.{Refusal}
 use Prim.Native.Nat.{ℕ}
 use mathlib.Core.Path.{◌≡◌, ap, subst}
 use mathlib.Core.Bool.{cond}
 use Rattle.marks.specs.Marks.{Mode, hides}
 use Rattle.machine.specs.Run.{Progress, going, over}
-use Rattle.calls.specs.Calls.{Call, load, begin, advance, answer, abandon, write_back, rewrite, check, Verdict}
+use Rattle.calls.specs.Calls.{Call, load, begin, advance, answer, abandon, write_back, rewrite, check}
 use Rattle.calls.proofs.Permits.{not_done}
 use Rattle.runner.specs.declared.Runner.{Runner}
 use Rattle.runner.specs.Outcomes.{Reply, running, ended, runs, effect, progress_reply, outcome_by, call}
@@ -15,7 +16,7 @@ use Rattle.run_claims.proofs.Branches.{clash}
 
 pub call_done : (c : Call) (r : Runner) → Accepted c r → call c r ≡ outcome_by (Ok tt) c r
 unfolding call
-call_done c r e = ap (λ (v : Verdict). outcome_by v c r) e
+call_done c r e = ap (λ (v : Result ⊤ Refusal). outcome_by v c r) e
 
 pub no_answer : (r : Runner) → r.state ≡ 1 → Accepted answer r → ⊥
 unfolding check

@@ -1,6 +1,7 @@
 -- The claims about held charts and the round trip, from what holds of every reachable runner.
 -- Assumes nothing.
-use Rattle.std.specs.Prelude.{Ok, Err}
+use Rattle.std.specs.Prelude.{Ok, Err, Result, ⊤}
+use Rattle.block.specs.declared.Refusal.{Refusal}
 use Prim.Native.Nat.{ℕ, ◌≤◌}
 use mathlib.Core.Path.{◌≡◌, refl, ap, sym, ◌∙◌}
 use mathlib.Core.List.{List, [], ◌∷◌, ◌++◌}
@@ -16,7 +17,7 @@ use Rattle.chart.specs.WriteBack.{file_length}
 use Rattle.chart_claims.proofs.RoundTrip.{file_again}
 use Rattle.chart_claims.proofs.Rules.{obeys_rules, stays_in_range}
 use Rattle.machine.specs.Run.{Progress, going, over}
-use Rattle.calls.specs.Calls.{Call, load, write_back, file_verdict, check, Verdict}
+use Rattle.calls.specs.Calls.{Call, load, write_back, file_verdict, check}
 use Rattle.calls.proofs.Permits.{write_back_fits}
 use Rattle.runner.specs.declared.Runner.{Runner}
 use Rattle.runner.specs.State.{chart_in, is_running, standing_of, idle, ended_with, dropped, ran, resumed}
@@ -80,7 +81,7 @@ next_kept : (c : Call) (r : Runner) → KeepsChart (effect c) (Accepted c r → 
 unfolding call outcome_by
 next_kept c r n = on (check c (standing_of r)) refl
   where
-    on : (v : Verdict) → check c (standing_of r) ≡ v → chart_in (outcome_by v c r).next ≡ chart_in r
+    on : (v : Result ⊤ Refusal) → check c (standing_of r) ≡ v → chart_in (outcome_by v c r).next ≡ chart_in r
     on (Ok _) e = after_kept (effect c) r (if_accepted (effect c) (λ no. no e) n)
     on (Err x) e = refl
 
@@ -121,7 +122,7 @@ wrote_accepted : (r : Runner) (buffer : List ℕ) (bytes : ℕ) → (call (write
 unfolding call outcome_by
 wrote_accepted r buffer bytes e = on (check (write_back buffer) (standing_of r)) refl e
   where
-    on : (v : Verdict) → check (write_back buffer) (standing_of r) ≡ v → (outcome_by v (write_back buffer) r).told.reply ≡ wrote bytes → v ≡ Ok tt
+    on : (v : Result ⊤ Refusal) → check (write_back buffer) (standing_of r) ≡ v → (outcome_by v (write_back buffer) r).told.reply ≡ wrote bytes → v ≡ Ok tt
     on (Ok _) q z = refl
     on (Err x) q z = clash cc
 

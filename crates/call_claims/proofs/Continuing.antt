@@ -1,7 +1,8 @@
 -- Lists of advances, answers, write backs and refused calls only run boxes: as many as the advances
 -- ask for, or fewer where the run ends or, with counts hidden, an advance is refused. And what each
 -- of their calls replies. Assumes nothing.
-use Rattle.std.specs.Prelude.{Ok, Err}
+use Rattle.std.specs.Prelude.{Ok, Err, Result, ⊤}
+use Rattle.block.specs.declared.Refusal.{Refusal}
 use Prim.Native.Nat.{ℕ, ◌+◌, ◌≤◌, ◌<◌}
 use mathlib.Core.Path.{◌≡◌, refl, ap, sym, ◌∙◌, subst}
 use mathlib.Core.List.Memᴰ
@@ -17,7 +18,7 @@ use Rattle.machine.specs.Run.{Run, Ending, valued, notice, spent, Progress, goin
 use Rattle.runs.specs.Whole.{disclosed}
 use Rattle.machine.proofs.Runs.{run_add, over_twice, AsBegun, run_as_begun}
 use Rattle.runs.proofs.Disclosed.{disclosed_by}
-use Rattle.calls.specs.Calls.{Call, load, begin, advance, answer, abandon, write_back, rewrite, refuse_if, check, Verdict}
+use Rattle.calls.specs.Calls.{Call, load, begin, advance, answer, abandon, write_back, rewrite, refuse_if, check}
 use Rattle.calls.proofs.Permits.{not_done, passed, advance_enough}
 use Rattle.runner.specs.declared.Runner.{Runner}
 use Rattle.runner.specs.State.{is_running, is_ended, least_in, standing_of, ending_in, run_in, ended_with, flow_in, ran, resumed}
@@ -192,7 +193,7 @@ module _ (r : Runner) (on : r.state ≡ 1) where
     pub all : hides mode ≡ false → boxes ≡ wanted
     pub is : next ≡ resumed (ran boxes r) r
 
-  advance_next : (m n : ℕ) (v : Verdict) → check (advance m) (standing_of (resumed (ran n r) r)) ≡ v
+  advance_next : (m n : ℕ) (v : Result ⊤ Refusal) → check (advance m) (standing_of (resumed (ran n r) r)) ≡ v
       → Ran (n + m) (outcome_by v (advance m) (resumed (ran n r) r)).next
   unfolding outcome_by
   advance_next m n (Ok _) e =
@@ -218,7 +219,7 @@ module _ (r : Runner) (on : r.state ≡ 1) where
       here : Ran (n + 0) (resumed (ran n r) r)
       here = record { boxes = n; all = λ h. omega arith; is = refl }
 
-      by : (x : Effect) → effect c ≡ x → OnlyRuns x (Accepted c (resumed (ran n r) r) → ⊥) → (v : Verdict) → check c (standing_of (resumed (ran n r) r)) ≡ v
+      by : (x : Effect) → effect c ≡ x → OnlyRuns x (Accepted c (resumed (ran n r) r) → ⊥) → (v : Result ⊤ Refusal) → check c (standing_of (resumed (ran n r) r)) ≡ v
           → Ran (n + amount_of x) (outcome_by v c (resumed (ran n r) r)).next
       by (runs m) e u v d =
           let is = runs_only c m e in
@@ -279,7 +280,7 @@ module _ (r : Runner) (on : r.state ≡ 1) where
   unfolding call outcome_by
   told_so c n = by (check c (standing_of (resumed (ran n r) r))) refl
     where
-      by : (v : Verdict) → check c (standing_of (resumed (ran n r) r)) ≡ v → Replied (outcome_by v c (resumed (ran n r) r)).told.reply
+      by : (v : Result ⊤ Refusal) → check c (standing_of (resumed (ran n r) r)) ≡ v → Replied (outcome_by v c (resumed (ran n r) r)).told.reply
       by (Ok _) e = said c n e
       by (Err x) e = turned
 

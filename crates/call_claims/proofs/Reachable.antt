@@ -1,7 +1,8 @@
 -- What holds of every reachable runner: a chart that is held came out of a file, a run under way is
 -- in range, and a runner without one is at rest. A new runner has it, a box keeps it, and so does
 -- every call. Assumes nothing.
-use Rattle.std.specs.Prelude.{Ok, Err}
+use Rattle.std.specs.Prelude.{Ok, Err, Result, ⊤}
+use Rattle.block.specs.declared.Refusal.{Refusal}
 use Prim.Native.Nat.{ℕ, ◌≤◌, ◌<◌}
 use mathlib.Core.Path.{◌≡◌, refl, ap, sym, ◌∙◌, subst}
 use mathlib.Core.List.{List}
@@ -12,7 +13,7 @@ use lib.Pow.{pow_pos, pow-lt}
 use lib.ListN.{length, length-set}
 use borrow.Author.Tests.{eqb-true}
 use Rattle.boxes.specs.Bytes.{box_of}
-use Rattle.format.specs.File.{header_of, in_range, check_file, Checked}
+use Rattle.format.specs.File.{header_of, in_range, check_file}
 use Rattle.format.specs.declared.Header.{Header}
 use Rattle.format.proofs.Passes.{passes}
 use Rattle.format.proofs.Ranges.{in_range_lem}
@@ -31,7 +32,7 @@ use Rattle.machine.proofs.Runs.{run_keeps, goes_by, notice_by}
 use Rattle.runs.proofs.Disclosed.{disclosed_by}
 use Rattle.begin.specs.Begin.{effective}
 use Rattle.begin.proofs.Begins.{effective_positive, effective_fits, length_vars, length_marks, marks_all}
-use Rattle.calls.specs.Calls.{Call, load, begin, advance, answer, abandon, write_back, rewrite, file_verdict, check, Verdict}
+use Rattle.calls.specs.Calls.{Call, load, begin, advance, answer, abandon, write_back, rewrite, file_verdict, check}
 use Rattle.calls.proofs.Permits.{not_done, passed, permitted, advance_enough, rewrites_second}
 use Rattle.runner.specs.declared.Runner.{Runner}
 use Rattle.runner.specs.State.{chart_in, flowchart_in, is_held, is_running, is_ended, standing_of, ending_in, run_in, with_run, under_way, idle, new_runner, ended_with, dropped, flow_in, ran, resumed}
@@ -139,7 +140,7 @@ pub accepted_file : (file : List ℕ) (r : Runner) → check (load file) (standi
 unfolding check file_verdict
 accepted_file file r e = on (check_file file) refl (passed (is_running r) 22 e).1
   where
-    on : (x : Checked) → check_file file ≡ x → file_verdict x ≡ Ok tt → check_file file ≡ Ok (header_of file)
+    on : (x : Result Header Refusal) → check_file file ≡ x → file_verdict x ≡ Ok tt → check_file file ≡ Ok (header_of file)
     on (Ok h) q v = q ∙ ap Ok (passes file h q).header
     on (Err x) q v = not_done v
 
@@ -190,7 +191,7 @@ rewrite_sound r e h =
     let new = ruled_is_loaded r.header (rewritten r.table) (rewritten_is_ruled r.header r.table old allowed.2) in
     dropped_sound (rewritten_chart (chart_in r)) (λ q. record { file = file_of r.header (rewritten r.table); checks = new.0; loads = sym new.1 })
 
-outcome_sound : (v : Verdict) (c : Call) (r : Runner) → check c (standing_of r) ≡ v → Sound r → Sound (outcome_by v c r).next
+outcome_sound : (v : Result ⊤ Refusal) (c : Call) (r : Runner) → check c (standing_of r) ≡ v → Sound r → Sound (outcome_by v c r).next
 unfolding outcome_by after dropped
 outcome_sound (Err x) c r e h = h
 outcome_sound (Ok _) (load file) r e h = dropped_sound _ (λ q. record { file = file; checks = accepted_file file r e; loads = refl })

@@ -1,6 +1,7 @@
 -- The claims about runs and refusals, from the laws of a run and of the calls that only run boxes.
 -- Assumes nothing.
-use Rattle.std.specs.Prelude.{Ok, Err}
+use Rattle.std.specs.Prelude.{Ok, Err, Result, ⊤}
+use Rattle.block.specs.declared.Refusal.{Refusal}
 use Prim.Native.Nat.{ℕ, ◌+◌, ◌-◌, ◌≤◌}
 use mathlib.Core.Path.{◌≡◌, refl, ap, sym, ◌∙◌, subst}
 use mathlib.Core.List.{List}
@@ -14,7 +15,7 @@ use Rattle.machine.specs.Run.{Run, Ending, Progress, going, over, run}
 use Rattle.runs.proofs.Disclosed.{disclosed_by, disclosed_all}
 use Rattle.begin.specs.Begin.{effective}
 use Rattle.begin.proofs.Begins.{effective_positive}
-use Rattle.calls.specs.Calls.{Call, load, begin, advance, answer, abandon, write_back, rewrite, check, Verdict}
+use Rattle.calls.specs.Calls.{Call, load, begin, advance, answer, abandon, write_back, rewrite, check}
 use Rattle.runner.specs.declared.Runner.{Runner}
 use Rattle.runner.specs.State.{chart_in, flowchart_in, is_running, least_in, standing_of, run_in, flow_in, ran, resumed}
 use Rattle.runs.specs.Whole.{finish, whole}
@@ -44,7 +45,7 @@ pub refusal_changes_nothing : RefusalChangesNothing
 unfolding call outcome_by
 refusal_changes_nothing c r n d e = on (check c (standing_of r)) e
   where
-    on : (v : Verdict) → (outcome_by v c r).told.reply ≡ refused n d → ((outcome_by v c r).told.buffer ≡ lent c) × ((outcome_by v c r).next ≡ r)
+    on : (v : Result ⊤ Refusal) → (outcome_by v c r).told.reply ≡ refused n d → ((outcome_by v c r).told.buffer ≡ lent c) × ((outcome_by v c r).next ≡ r)
     on (Ok _) q = absurd (not_refused c r n d q)
     on (Err x) q = (refl, refl)
 

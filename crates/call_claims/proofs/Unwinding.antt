@@ -2,7 +2,8 @@
 -- when they are the same, or both have runs under way that are low-equal. An advance of a
 -- high-water run ends it and hides how it was lost, so every call keeps low-equal runners so and
 -- tells the same (output consistency); then one induction over the list. Assumes nothing.
-use Rattle.std.specs.Prelude.{Ok, Err}
+use Rattle.std.specs.Prelude.{Ok, Err, Result, ⊤}
+use Rattle.block.specs.declared.Refusal.{Refusal}
 use Prim.Native.Nat.{ℕ, ◌≤◌, ◌<◌}
 use mathlib.Core.Path.{◌≡◌, refl, ap, sym, ◌∙◌, subst}
 use mathlib.Core.List.{List, [], ◌∷◌}
@@ -18,7 +19,7 @@ use Rattle.run_claims.proofs.Branches.{clash}
 use Rattle.run_claims.proofs.Counting.{Over, run_ends}
 use Rattle.run_claims.proofs.Lost.{lost_hidden}
 use Rattle.run_claims.proofs.Low.{Agree, with_vars, Watched, surveyed, unmarked, Low, same_run, runs_apart, both_lost, run_low}
-use Rattle.calls.specs.Calls.{Call, load, begin, advance, answer, abandon, write_back, rewrite, check, Verdict}
+use Rattle.calls.specs.Calls.{Call, load, begin, advance, answer, abandon, write_back, rewrite, check}
 use Rattle.calls.proofs.Permits.{advance_enough}
 use Rattle.runner.specs.declared.Runner.{Runner}
 use Rattle.runner.specs.State.{least_in, standing_of, run_in, with_run, ended_with, dropped, flow_in, ran, resumed}
@@ -111,7 +112,7 @@ module _ (r : Runner) (w : List ℕ) (s : r.state ≡ 1) {m : Mode} (g : Watched
   after_low drops f = same
   after_low (replaces by) f = same
 
-  outcome_low : (v : Verdict) (c : Call) → check c (standing_of r) ≡ v → Alike (outcome_by v c r) (outcome_by v c (other_vars r w))
+  outcome_low : (v : Result ⊤ Refusal) (c : Call) → check c (standing_of r) ≡ v → Alike (outcome_by v c r) (outcome_by v c (other_vars r w))
   unfolding outcome_by
   outcome_low (Err x) c e = record { told = refl; next = apart w s g b h }
   outcome_low (Ok _) c e =

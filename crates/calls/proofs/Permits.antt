@@ -12,15 +12,15 @@ use Rattle.block.specs.declared.Refusal.{Refusal}
 use Rattle.format.specs.File.{in_range}
 use Rattle.format.specs.declared.Header.{Header}
 use Rattle.chart.specs.WriteBack.{file_length, has_room}
-use Rattle.calls.specs.Calls.{begin, advance, write_back, rewrite, refuse_if, check, Verdict}
+use Rattle.calls.specs.Calls.{begin, advance, write_back, rewrite, refuse_if, check}
 use Rattle.calls.specs.declared.Standing.{Standing}
-use Rattle.std.specs.Prelude.{Ok, Err}
+use Rattle.std.specs.Prelude.{Ok, Err, Result, ⊤}
 
-pub not_done {ℓ} : {A : Type ℓ} {x : Refusal} → ◌≡◌ {A = Verdict} (Err x) (Ok tt) → A
+pub not_done {ℓ} : {A : Type ℓ} {x : Refusal} → ◌≡◌ {A = Result ⊤ Refusal} (Err x) (Ok tt) → A
 not_done e = let z : ◌≡◌ {A = ℕ} 0 1 = cc in absurd (omega arith)
 
 -- A rule on the way to an accepted call.
-pub passed : (broken : Bool) {otherwise : Verdict} (number : ℕ) → refuse_if broken number otherwise ≡ Ok tt → (broken ≡ false) × (otherwise ≡ Ok tt)
+pub passed : (broken : Bool) {otherwise : Result ⊤ Refusal} (number : ℕ) → refuse_if broken number otherwise ≡ Ok tt → (broken ≡ false) × (otherwise ≡ Ok tt)
 passed true number e = not_done e
 passed false number e = (refl, e)
 

@@ -9,9 +9,9 @@ use borrow.Author.Tests.{lt-ltb, le-ltb, lt-leb, le-leb, eq-eqb, ne_eqb, not-fal
 use Rattle.block.specs.declared.Refusal.{Refusal}
 use Rattle.format.specs.File.{in_range}
 use Rattle.chart.specs.WriteBack.{file_length}
-use Rattle.calls.specs.Calls.{begin, advance, write_back, rewrite, refuse, at_rest, check, Verdict}
+use Rattle.calls.specs.Calls.{begin, advance, write_back, rewrite, refuse, at_rest, check}
 use Rattle.calls.specs.declared.Standing.{Standing}
-use Rattle.std.specs.Prelude.{Ok, Err}
+use Rattle.std.specs.Prelude.{Ok, Err, Result, ⊤}
 use Rattle.calls.proofs.Permits.{not_done, passed}
 
 -- What a begin and a rewriting ask first.
@@ -27,7 +27,7 @@ module _ (s : Standing) where
 
   -- What it refuses it refuses whatever else is asked, and where it lets pass a chart is held, and
   -- the rest decides.
-  pub not_at_rest : (x : Refusal) (otherwise : Verdict) → at_rest s (Ok tt) ≡ Err x → at_rest s (Ok tt) ≡ at_rest s otherwise
+  pub not_at_rest : (x : Refusal) (otherwise : Result ⊤ Refusal) → at_rest s (Ok tt) ≡ Err x → at_rest s (Ok tt) ≡ at_rest s otherwise
   not_at_rest x otherwise e = on (in_range s.header) refl s.running refl
     where
       on : (held : Bool) → in_range s.header ≡ held → (busy : Bool) → s.running ≡ busy → at_rest s (Ok tt) ≡ at_rest s otherwise
@@ -35,7 +35,7 @@ module _ (s : Standing) where
       on true h true b = rw (h, b)
       on true h false b = not_done (sym e ∙ rw (h, b))
 
-  pub rests : at_rest s (Ok tt) ≡ Ok tt → (in_range s.header ≡ true) × ((otherwise : Verdict) → at_rest s otherwise ≡ otherwise)
+  pub rests : at_rest s (Ok tt) ≡ Ok tt → (in_range s.header ≡ true) × ((otherwise : Result ⊤ Refusal) → at_rest s otherwise ≡ otherwise)
   rests e =
       let one = passed (not (in_range s.header)) 21 e in
       let two = passed s.running 22 one.1 in

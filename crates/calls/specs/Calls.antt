@@ -1,9 +1,10 @@
 -- The seven calls, and what refuses each of them: by one definition, with the refusals in the
 -- documents' order.
 use Rattle.std.specs.Prelude.{ℕ, ◌/◌, ◌^◌, List, Bool, Result, Ok, Err, ⊤, not, eqb, ltb, length}
+use Rattle.format.specs.declared.Header.{Header}
 use Rattle.block.specs.Refusing.{refusal, refuse_into}
 use Rattle.block.specs.declared.Refusal.{Refusal}
-use Rattle.format.specs.File.{Checked, in_range, check_file}
+use Rattle.format.specs.File.{in_range, check_file}
 use Rattle.chart.specs.WriteBack.{has_room}
 use Rattle.calls.specs.declared.Standing.{Standing}
 
@@ -18,28 +19,24 @@ pub data Call : Type 0 where
   write_back : (buffer : List ℕ) → Call
   rewrite : Call
 
--- What is answered of a call: done, or refused.
-abbrev pub Verdict : Type 0
-Verdict = Result ⊤ Refusal
-
 -- A refusal whose detail is 0, and a rule that refuses where it is broken.
-abbrev pub refuse : ℕ → Verdict
+abbrev pub refuse : ℕ → Result ⊤ Refusal
 refuse number = Err (refusal number 0)
 
-abbrev pub refuse_if : (broken : Bool) (number : ℕ) → Verdict → Verdict
+abbrev pub refuse_if : (broken : Bool) (number : ℕ) → Result ⊤ Refusal → Result ⊤ Refusal
 refuse_if broken number otherwise = refuse_into Err broken number 0 otherwise
 
 -- A value by a verdict: of a call that is done, or of a refusal.
-abbrev pub by_verdict : {A : Type 0} → Verdict → A → (Refusal → A) → A
+abbrev pub by_verdict : {A : Type 0} → Result ⊤ Refusal → A → (Refusal → A) → A
 by_verdict (Ok _) done refused = done
 by_verdict (Err x) done refused = refused x
 
 -- What a begin and a rewriting ask first: a chart, and no run under way.
-abbrev pub at_rest : Standing → Verdict → Verdict
+abbrev pub at_rest : Standing → Result ⊤ Refusal → Result ⊤ Refusal
 at_rest s otherwise = refuse_if (not (in_range s.header)) 21 (refuse_if s.running 22 otherwise)
 
 -- The verdict of load's input checks 1 to 6.
-unfoldable pub file_verdict : Checked → Verdict
+unfoldable pub file_verdict : Result Header Refusal → Result ⊤ Refusal
 file_verdict (Ok h) = Ok tt
 file_verdict (Err x) = Err x
 
@@ -52,7 +49,7 @@ file_verdict (Err x) = Err x
 -- 02, b: "It refuses, with 13 and after 23, an advance by less than the run's limit in high-water
 -- mode." 02, g: the rewriter "refuses, with 21, when no chart is held, with 22 during a run, and
 -- only then with 15 when the chart is edition 1"; an edition that is not 2 is as 1.
-unfoldable pub check : Call → Standing → Verdict
+unfoldable pub check : Call → Standing → Result ⊤ Refusal
 check (load file) s = refuse_if s.running 22 (file_verdict (check_file file))
 check (begin mode inputs allowed limit) s =
     at_rest s

@@ -1,10 +1,12 @@
 -- "Show a box: needs no runner. It takes a file and a number and returns the ten bytes of that box
 -- as a part of the lent file, or an empty part exactly when load's input checks would refuse the
 -- file or the number isn't below n."
-use Rattle.std.specs.Prelude.{Ok, Err, ℕ, ◌+◌, ◌≡◌, List, cond, ltb}
+use Rattle.std.specs.Prelude.{Ok, Err, ℕ, ◌+◌, ◌≡◌, List, cond, ltb, Result}
+use Rattle.block.specs.declared.Refusal.{Refusal}
+use Rattle.format.specs.declared.Header.{Header}
 use Rattle.std.specs.Borrow.{Bor}
 use Rattle.boxes.specs.Bytes.{part}
-use Rattle.format.specs.File.{place_start, check_file, Checked}
+use Rattle.format.specs.File.{place_start, check_file}
 
 -- A part of a list: where it starts, and its size.
 pub record Span : Type 0 where
@@ -15,7 +17,7 @@ abbrev empty : Span
 empty = record { start = 0; size = 0 }
 
 -- The part to show, by what load's input checks answer.
-unfoldable pub shown_by : Checked → ℕ → Span
+unfoldable pub shown_by : Result Header Refusal → ℕ → Span
 shown_by (Ok h) p = cond (ltb p h.boxes) (record { start = place_start p; size = 10 }) empty
 shown_by (Err r) p = empty
 

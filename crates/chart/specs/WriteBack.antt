@@ -6,10 +6,6 @@ use Rattle.format.specs.File.{blocks_for, in_range}
 use Rattle.format.specs.declared.Header.{Header}
 use Rattle.chart.specs.Chart.{file_of}
 
--- What is told where a chart's file is to be written: its length, or a refusal.
-abbrev pub Written : Type 0
-Written = Result ℕ Refusal
-
 -- The length of a chart's file.
 abbrev pub file_length : Header → ℕ
 file_length h = 512 * blocks_for h.boxes

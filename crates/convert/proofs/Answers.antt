@@ -2,7 +2,7 @@
 -- accepting answer says; and what the converter does by its answer. untaken_is, tells_untaken,
 -- tells_room, tells_header; after_chart, after_refused; chart_accepted, after_accepted, fits;
 -- converts, converts_refused. Assumes nothing.
-use Rattle.std.specs.Prelude.{Ok, Err}
+use Rattle.std.specs.Prelude.{Ok, Err, Result}
 use Prim.Native.Nat.{ℕ, ◌≤◌, ◌<◌}
 use mathlib.Core.Path.{◌≡◌, refl, ap, ap₂, ◌∙◌}
 use mathlib.Core.List.{List}
@@ -14,7 +14,7 @@ use borrow.Author.Tests.{lt-ltb, le-ltb, lt-leb, le-leb, leb-true, not-false}
 use Rattle.block.specs.Refusing.{refusal}
 use Rattle.block.specs.declared.Refusal.{Refusal}
 use Rattle.format.specs.Search.{first_failing}
-use Rattle.format.specs.File.{in_range, check_file, Checked}
+use Rattle.format.specs.File.{in_range, check_file}
 use Rattle.format.specs.declared.Header.{Header}
 use Rattle.format.proofs.Passes.{passed, passes}
 use Rattle.chart.specs.Chart.{table_of}
@@ -64,7 +64,7 @@ module _ (f table : List ℕ) (room : ℕ) where
   unfolding check_after
   after_accepted {h'} e = on (check_file f) refl e
     where
-      on : (c : Checked) → check_file f ≡ c → check_after c table room ≡ Ok h'
+      on : (c : Result Header Refusal) → check_file f ≡ c → check_after c table room ≡ Ok h'
           → (h : Header) × (check_file f ≡ Ok h) × (check_chart h table room ≡ Ok h')
       on (Ok h) q g = (h, q, g)
       on (Err x) q g = let z : ◌≡◌ {A = ℕ} 0 1 = cc in absurd (omega arith)

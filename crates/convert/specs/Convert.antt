@@ -1,14 +1,15 @@
 -- 02, f: "The converter takes a whole file and a buffer and writes the other edition's file, with
 -- the same boxes in the same places, at the front of the buffer. Bytes past it stay untouched; the
 -- converter tells the file's length."
-use Rattle.std.specs.Prelude.{Ok, Err, ℕ, List, Bool, cond, not, ◌&&◌, ◌||◌, eqb, ltb, length}
+use Rattle.std.specs.Prelude.{Ok, Err, ℕ, List, Bool, cond, not, ◌&&◌, ◌||◌, eqb, ltb, length, Result}
+use Rattle.block.specs.declared.Refusal.{Refusal}
 use Rattle.boxes.specs.Bytes.{at, box_of}
 use Rattle.boxes.specs.Box.{has_kind}
 use Rattle.format.specs.Search.{first_failing}
-use Rattle.format.specs.File.{refuse_if, check_file, Checked}
+use Rattle.format.specs.File.{refuse_if, check_file}
 use Rattle.format.specs.declared.Header.{Header}
 use Rattle.chart.specs.Chart.{table_of}
-use Rattle.chart.specs.WriteBack.{file_length, with_file, has_room, Written}
+use Rattle.chart.specs.WriteBack.{file_length, with_file, has_room}
 
 -- "the other edition", and the header of a chart in it.
 abbrev pub other_than : ℕ → ℕ
@@ -34,7 +35,7 @@ takes_box edition table p = takes edition (box_of table p)
 -- written, or a refusal. "It refuses, with 14 and the first such box as detail, a chart with a box
 -- of operation 2, 3 or 11 (or of a kind that the other edition lacks), and then, with 12, a buffer
 -- shorter than the file."
-unfoldable pub check_chart : Header → (table : List ℕ) (room : ℕ) → Checked
+unfoldable pub check_chart : Header → (table : List ℕ) (room : ℕ) → Result Header Refusal
 check_chart h table room =
     let other = in_other h in
     let untaken = first_failing (takes_box other.edition table) h.boxes in
@@ -43,20 +44,20 @@ check_chart h table room =
     (Ok other))
 
 -- "01's load checks 1 to 6 come first."
-unfoldable pub check_after : Checked → (table : List ℕ) (room : ℕ) → Checked
+unfoldable pub check_after : Result Header Refusal → (table : List ℕ) (room : ℕ) → Result Header Refusal
 check_after (Ok h) table room = check_chart h table room
 check_after (Err x) table room = Err x
 
 -- What the converter tells, and every byte of the buffer after it.
 pub record Conversion : Type 0 where
-  pub told : Written
+  pub told : Result ℕ Refusal
   pub buffer : List ℕ
 
-abbrev pub conversion : Written → (buffer : List ℕ) → Conversion
+abbrev pub conversion : Result ℕ Refusal → (buffer : List ℕ) → Conversion
 conversion told buffer = record { told = told; buffer = buffer }
 
 -- By the answer: the file is put at the front of the buffer, or nothing changes.
-unfoldable pub conversion_by : Checked → (table buffer : List ℕ) → Conversion
+unfoldable pub conversion_by : Result Header Refusal → (table buffer : List ℕ) → Conversion
 conversion_by (Ok h) table buffer = conversion (Ok (file_length h)) (with_file h table buffer)
 conversion_by (Err x) table buffer = conversion (Err x) buffer
 

@@ -2,7 +2,7 @@
 -- does the same in both editions and a place past the last is a halt in both; so two runners that
 -- differ in the edition alone tell the same at every call but a write back and a rewriting, and
 -- differ in it alone afterwards, or in nothing after a load. Assumes nothing.
-use Rattle.std.specs.Prelude.{Ok, Err}
+use Rattle.std.specs.Prelude.{Ok, Err, Result, ⊤}
 use Prim.Native.Nat.{ℕ, ◌*◌, ◌<◌}
 use mathlib.Core.Path.{◌≡◌, refl, ap, ap₂, subst, sym, ◌∙◌, fun_ext}
 use mathlib.Core.List.{List, [], ◌∷◌}
@@ -27,7 +27,7 @@ use Rattle.decode.proofs.Decoded.{box_here, box_past}
 use Rattle.marks.specs.Marks.{mode_of}
 use Rattle.machine.specs.Run.{Progress, going, over, run}
 use Rattle.runs.specs.Whole.{disclosed, whole}
-use Rattle.calls.specs.Calls.{Call, load, begin, advance, answer, abandon, write_back, rewrite, check, Verdict}
+use Rattle.calls.specs.Calls.{Call, load, begin, advance, answer, abandon, write_back, rewrite, check}
 use Rattle.calls.proofs.Permits.{rewrites_second}
 use Rattle.runner.specs.declared.Runner.{Runner}
 use Rattle.runner.specs.State.{flowchart_of, run_in, standing_of, runner_of, idle, ended_with, dropped, flow_in, ran, resumed}
@@ -106,7 +106,7 @@ module _ (edition : ℕ) (r : Runner) (same : flow edition r.table ≡ flow_in r
   resumed_same (over x steps) = two edition same
 
   -- What both tell at an accepted call, and that they stay so.
-  abbrev Alike : Verdict → Call → Type 0
+  abbrev Alike : Result ⊤ Refusal → Call → Type 0
   Alike v c = ((outcome_by v c (recast edition r)).told ≡ (outcome_by v c r).told) × SameButEdition (outcome_by v c r).next (outcome_by v c (recast edition r)).next
 
   advance_alike : (m : ℕ) → Alike (Ok tt) (advance m)
@@ -132,7 +132,7 @@ module _ (edition : ℕ) (r : Runner) (same : flow edition r.table ≡ flow_in r
   unfolding call
   call_alike c hides = rw (check_alike c edition r hides) (on (check c (standing_of r)) refl)
     where
-      on : (v : Verdict) → check c (standing_of r) ≡ v → Alike v c
+      on : (v : Result ⊤ Refusal) → check c (standing_of r) ≡ v → Alike v c
       on (Ok _) a = done_alike c a hides
       on (Err x) a = refused_alike x c
 

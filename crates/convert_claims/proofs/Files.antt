@@ -1,7 +1,7 @@
 -- The converted file. A file converts where load accepts it and the other edition takes all its
 -- boxes, and then to the file of its chart in the other edition; that chart obeys the rules, so
 -- load accepts its file, and the edition that it came from takes its boxes. Assumes nothing.
-use Rattle.std.specs.Prelude.{Ok, Err}
+use Rattle.std.specs.Prelude.{Ok, Err, Result}
 use Prim.Native.Nat.{ℕ, ◌≤◌, ◌<◌}
 use mathlib.Core.Path.{◌≡◌, refl, ap, sym, ◌∙◌}
 use mathlib.Core.List.{List, ◌++◌}
@@ -13,7 +13,7 @@ use lib.Seq.{take_at}
 use Rattle.boxes.specs.Bytes.{box_of}
 use Rattle.boxes.proofs.Bools.{never_false}
 use Rattle.block.specs.Refusing.{refusal}
-use Rattle.format.specs.File.{header_of, is_edition, check_file, Checked}
+use Rattle.format.specs.File.{header_of, is_edition, check_file}
 use Rattle.format.specs.declared.Header.{Header}
 use Rattle.block.specs.declared.Refusal.{Refusal}
 use Rattle.format.proofs.Passes.{passes, refused_at_most_six}
@@ -38,9 +38,9 @@ AllTaken h table = (p : ℕ) → p < h.boxes → takes_box (other_than h.edition
 abbrev other_file : List ℕ → Header → List ℕ
 other_file f h = file_of (in_other h) (table_of f)
 
-by_answer : (f buffer : List ℕ) {c : Checked} → check_after (check_file f) (table_of f) (length buffer) ≡ c → convert f buffer ≡ conversion_by c (table_of f) buffer
+by_answer : (f buffer : List ℕ) {c : Result Header Refusal} → check_after (check_file f) (table_of f) (length buffer) ≡ c → convert f buffer ≡ conversion_by c (table_of f) buffer
 unfolding convert
-by_answer f buffer e = ap (λ (c : Checked). conversion_by c (table_of f) buffer) e
+by_answer f buffer e = ap (λ (c : Result Header Refusal). conversion_by c (table_of f) buffer) e
 
 -- A file whose boxes are all taken.
 module _ (f : List ℕ) (h : Header) (e : check_file f ≡ Ok h) (all : AllTaken h (table_of f)) where
@@ -116,7 +116,7 @@ pub made : (f g : List ℕ) → ConvertsTo f g → Made f g
 unfolding conversion_by with_file
 made f g c = on (check_after (check_file f) (table_of f) (length c.buffer)) refl
   where
-    on : (x : Checked) → check_after (check_file f) (table_of f) (length c.buffer) ≡ x → Made f g
+    on : (x : Result Header Refusal) → check_after (check_file f) (table_of f) (length c.buffer) ≡ x → Made f g
     on (Ok h') e =
         let a = after_accepted f (table_of f) (length c.buffer) e in
         let h = a.0 in
@@ -205,7 +205,7 @@ module _ (f : List ℕ) (e : check_file f ≡ Ok (header_of f)) where
       record { below = l; here = speaks p s.1; none = λ q m u. false≢true (sym (fails q u) ∙ s.0 q m) }
 
   module _ (buffer : List ℕ) where
-    answered : {c : Checked} → c ≡ check_chart h (table_of f) (length buffer) → (convert f buffer).told ≡ (conversion_by c (table_of f) buffer).told
+    answered : {c : Result Header Refusal} → c ≡ check_chart h (table_of f) (length buffer) → (convert f buffer).told ≡ (conversion_by c (table_of f) buffer).told
     answered q = ap (λ (z : Conversion). z.told) (by_answer f buffer (sym (q ∙ after_chart f (table_of f) (length buffer) e)))
 
     told_untaken : untaken h (table_of f) < h.boxes → (convert f buffer).told ≡ Err (refusal 14 (untaken h (table_of f)))
@@ -250,7 +250,7 @@ refused_as_loaded f buffer x e = ap (λ (z : Conversion). z.told) (by_answer f b
 accepts_where : (f buffer : List ℕ) (p : ℕ) → (convert f buffer).told ≡ Err (refusal 14 p) → check_file f ≡ Ok (header_of f)
 accepts_where f buffer p told = on (check_file f) refl
   where
-    on : (c : Checked) → check_file f ≡ c → check_file f ≡ Ok (header_of f)
+    on : (c : Result Header Refusal) → check_file f ≡ c → check_file f ≡ Ok (header_of f)
     on (Ok h) e = e ∙ ap Ok (passes f h e).header
     on (Err x) e =
         let number = ap (λ (y : Refusal). y.number) (refused_once (sym (refused_as_loaded f buffer x e) ∙ told)) in
@@ -268,6 +268,6 @@ pub refusal_leaves_buffer : RefusalLeavesBuffer
 unfolding convert conversion_by
 refusal_leaves_buffer f buffer x e = on (check_after (check_file f) (table_of f) (length buffer)) e
   where
-    on : (c : Checked) → (conversion_by c (table_of f) buffer).told ≡ Err x → (conversion_by c (table_of f) buffer).buffer ≡ buffer
+    on : (c : Result Header Refusal) → (conversion_by c (table_of f) buffer).told ≡ Err x → (conversion_by c (table_of f) buffer).buffer ≡ buffer
     on (Ok h) q = clash cc
     on (Err y) q = refl

@@ -1,3 +1,4 @@
+// Kept: numbers, since callers in C read them (`flow_script`), and `encode` names each.
 // The kinds of what is told: the numbers that `encode` of specs/Encoding.antt has. In parentheses
 // are the two values of each; one that is not named is 0.
 pub const DONE: u32 = 0;

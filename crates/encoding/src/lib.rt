@@ -5,17 +5,15 @@
 pub mod kinds;
 
 ghost use Rattle.std.specs.Prelude.{◌≡◌};
-ghost use Rattle.runner.specs.Outcomes.{refused};
-ghost use Rattle.runner.specs.Replies.{load_reply, verdict_reply, advance_reply, answer_reply, written_reply};
+ghost use Rattle.runner.specs.Outcomes.{Reply, done, chart, wrote, turned_away};
+ghost use Rattle.runner.specs.Replies.{reply_by, progress_told, ending_told};
 ghost use Rattle.encoding.specs.Encoding.{numbers, encode, EncodesOnce};
 
 use block::Refusal;
-use calls::Verdict;
-use chart::Written;
-use runner::{AdvanceTold, AnswerTold, LoadTold};
+use runner::{Advanced, Answered, Loaded};
 
 // A kind, one of `kinds`, and its two values.
-#[derive(Clone, Copy)]
+#[derive(Clone, Copy, Debug, PartialEq, Eq)]
 pub struct Encoded {
     pub kind: u32,
     pub first: u64,
@@ -32,58 +30,89 @@ pub fn make(kind: u32, first: u64, second: u32) -> Encoded
     }
 }
 
-fn of_refusal(refusal: Refusal) -> Encoded
-    ensures { result ≡ encode (refused refusal.number refusal.detail) }
-{
-    make(kinds::REFUSED, refusal.number as u64, refusal.detail)
+// What a call tells where it is done: its reply, and the numbers of that.
+pub trait Numbered {
+    ghost reply: { Self → Reply };
+
+    fn numbered(self) -> Encoded
+        ensures { result ≡ encode (reply self) };
 }
 
-pub fn of_load(told: LoadTold) -> Encoded
-    ensures { result ≡ encode (load_reply told) }
-{
-    match told {
-        LoadTold::Chart { inputs, boxes } => make(kinds::CHART, inputs as u64, boxes as u32),
-        LoadTold::Refused(refusal) => of_refusal(refusal),
+// A begin, an abandon or a rewriting.
+impl Numbered for () {
+    ghost reply = { λ u. done };
+
+    #[tactic(auto, unfolding(crate::specs::Encoding::encode))]
+    fn numbered(self) -> Encoded {
+        make(kinds::DONE, 0, 0)
     }
 }
 
-// Of a begin, an abandon or a rewriting.
-pub fn of_verdict(told: Verdict) -> Encoded
-    ensures { result ≡ encode (verdict_reply told) }
-{
-    match told {
-        Verdict::Done => make(kinds::DONE, 0, 0),
-        Verdict::Refused(refusal) => of_refusal(refusal),
+impl Numbered for Loaded {
+    ghost reply = { λ c. chart c.inputs c.boxes };
+
+    #[tactic(auto, unfolding(crate::specs::Encoding::encode))]
+    fn numbered(self) -> Encoded {
+        make(kinds::CHART, u64::from(self.inputs), u32::from(self.boxes))
     }
 }
 
-pub fn of_advance(told: AdvanceTold) -> Encoded
-    ensures { result ≡ encode (advance_reply told) }
-{
-    match told {
-        AdvanceTold::Running(steps) => make(kinds::RUNNING, steps as u64, 0),
-        AdvanceTold::Ended(steps) => make(kinds::ENDED, steps as u64, 0),
-        AdvanceTold::Refused(refusal) => of_refusal(refusal),
+impl Numbered for Advanced {
+    ghost reply = { progress_told };
+
+    #[tactic(auto, unfolding(crate::specs::Encoding::encode))]
+    fn numbered(self) -> Encoded {
+        match self {
+            Advanced::Running(steps) => make(kinds::RUNNING, u64::from(steps), 0),
+            Advanced::Ended(steps) => make(kinds::ENDED, u64::from(steps), 0),
+        }
     }
 }
 
-pub fn of_answer(told: AnswerTold) -> Encoded
-    ensures { result ≡ encode (answer_reply told) }
-{
-    match told {
-        AnswerTold::Value { value, steps } => make(kinds::VALUE, value as u64, steps),
-        AnswerTold::Notice { named, steps } => make(kinds::NOTICE, steps as u64, named as u32),
-        AnswerTold::Spent(steps) => make(kinds::SPENT, steps as u64, 0),
-        AnswerTold::Refused(refusal) => of_refusal(refusal),
+impl Numbered for Answered {
+    ghost reply = { ending_told };
+
+    #[tactic(auto, unfolding(crate::specs::Encoding::encode, crate::specs::Encoding::ending_numbers))]
+    fn numbered(self) -> Encoded {
+        match self {
+            Answered::Value { value, steps } => make(kinds::VALUE, u64::from(value), steps),
+            Answered::Notice { named, steps } => {
+                make(kinds::NOTICE, u64::from(steps), u32::from(named))
+            }
+            Answered::Spent(steps) => make(kinds::SPENT, u64::from(steps), 0),
+        }
     }
 }
 
-pub fn of_written(told: Written) -> Encoded
-    ensures { result ≡ encode (written_reply told) }
-{
-    match told {
-        Written::Length(length) => make(kinds::WRITTEN, length as u64, 0),
-        Written::Refused(refusal) => of_refusal(refusal),
+// The length of a file, by write back and by the converter.
+impl Numbered for usize {
+    ghost reply = { wrote };
+
+    #[tactic(auto, unfolding(crate::specs::Encoding::encode))]
+    fn numbered(self) -> Encoded {
+        // Kept: std has no `From` of usize into u64.
+        make(kinds::WRITTEN, self as u64, 0)
+    }
+}
+
+impl From<Refusal> for Encoded {
+    ghost from_gives = { λ refusal told. told ≡ encode (turned_away refusal) };
+
+    #[tactic(auto, unfolding(crate::specs::Encoding::encode))]
+    fn from(refusal: Refusal) -> Encoded {
+        make(kinds::REFUSED, u64::from(refusal.number), refusal.detail)
+    }
+}
+
+// Of every call, and of the converter: what it tells, or its refusal.
+impl<T: Numbered> From<Result<T, Refusal>> for Encoded {
+    ghost from_gives = { λ answer told. told ≡ encode (reply_by T.reply answer) };
+
+    fn from(answer: Result<T, Refusal>) -> Encoded {
+        match answer {
+            Ok(done) => done.numbered(),
+            Err(refusal) => refusal.into(),
+        }
     }
 }
 

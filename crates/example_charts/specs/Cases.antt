@@ -1,9 +1,10 @@
 -- A case of the tables, what the definitions give for it, and what they are to give.
-use Rattle.std.specs.Prelude.{Ok, Err, ℕ, ◌≡◌, List, [], ◌∷◌, ◌++◌, map, length, replicate}
+use Rattle.std.specs.Prelude.{Ok, Err, ℕ, ◌≡◌, List, [], ◌∷◌, ◌++◌, map, length, replicate, Result}
+use Rattle.block.specs.declared.Refusal.{Refusal}
+use Rattle.format.specs.declared.Header.{Header}
 use Rattle.block.specs.Block.{checksum}
 use Rattle.block.specs.Refusing.{refusal}
-use Rattle.format.specs.File.{header_of, check_file, Checked}
-use Rattle.chart.specs.WriteBack.{Written}
+use Rattle.format.specs.File.{header_of, check_file}
 use Rattle.convert.specs.Convert.{Conversion, conversion, convert}
 use Rattle.operations.specs.Operation.{read_by, value_of}
 use Rattle.marks.specs.Marks.{Mode, union, by_mode, set_by}
@@ -22,10 +23,10 @@ use Rattle.call_claims.specs.Lists.{tells}
 -- a block's check adds, the block, and its check; or two masks, of the inputs to keep and of those
 -- to take, the old set, the sets read, and the new set.
 pub data Case : Type 0 where
-  answers : (file : List ℕ) → Checked → Case
+  answers : (file : List ℕ) → Result Header Refusal → Case
   returns : (file : List ℕ) → Case
   rewrites : (file new : List ℕ) → Case
-  converts : (file buffer : List ℕ) → Written → (end : List ℕ) → Case
+  converts : (file buffer : List ℕ) → Result ℕ Refusal → (end : List ℕ) → Case
   runs : (file : List ℕ) (mode : Mode) (inputs : List ℕ) (allowed limit : ℕ) → Ending → (steps : ℕ) → Case
   runs_rewritten : (file : List ℕ) (mode : Mode) (inputs : List ℕ) (allowed limit : ℕ) → Ending → (steps : ℕ) → Case
   operates : (edition op left right result : ℕ) → Case
@@ -38,7 +39,7 @@ number_of mode = by_mode mode 0 1 2
 
 -- What a case gives: the answer of the checks, a conversion, what calls tell, or a number.
 pub data Given : Type 0 where
-  checked : Checked → Given
+  checked : Result Header Refusal → Given
   converted : Conversion → Given
   told : List Told → Given
   number : ℕ → Given
@@ -88,10 +89,10 @@ expected (checks added block check) = number check
 expected (sets masks before read set) = number set
 
 -- What load's checks answer: a header, or a refusal.
-abbrev pub accepted : (edition k n first : ℕ) → Checked
+abbrev pub accepted : (edition k n first : ℕ) → Result Header Refusal
 accepted edition k n first = Ok (record { edition = edition; inputs = k; boxes = n; first = first })
 
-abbrev pub refused : ℕ → ℕ → Checked
+abbrev pub refused : ℕ → ℕ → Result Header Refusal
 refused n detail = Err (refusal n detail)
 
 -- A table of so many cases, each of which gives what is expected.

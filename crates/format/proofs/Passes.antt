@@ -1,6 +1,6 @@
 -- What it says of a file that its checks pass: one record of facts, which load, show a box, the
 -- round trip and the converter cite. And that no refusal has a number above 6. Assumes nothing.
-use Rattle.std.specs.Prelude.{Ok, Err}
+use Rattle.std.specs.Prelude.{Ok, Err, Result}
 use Prim.Native.Nat.{ℕ, ◌*◌, ◌-◌, ◌≤◌, ◌<◌}
 use mathlib.Core.Path.{◌≡◌, refl, ap}
 use mathlib.Core.List.{List, [], ◌∷◌}
@@ -13,7 +13,7 @@ use Rattle.boxes.specs.Bytes.{at, part, all_zero}
 use Rattle.block.specs.Refusing.{refusal}
 use Rattle.block.specs.declared.Refusal.{Refusal}
 use Rattle.format.specs.Search.{first_failing}
-use Rattle.format.specs.File.{blocks_of, blocks_for, header_of, is_edition, in_range, length_rule, check_rule, letters_rule, header_rule, place_rule, refuse_if, check_file, Checked}
+use Rattle.format.specs.File.{blocks_of, blocks_for, header_of, is_edition, in_range, length_rule, check_rule, letters_rule, header_rule, place_rule, refuse_if, check_file}
 use Rattle.format.specs.declared.Header.{Header}
 use Rattle.boxes.proofs.Bools.{and_left, and_right, every}
 use Rattle.format.proofs.Search.{all_hold}
@@ -43,13 +43,13 @@ pub record Passes (f : List ℕ) (h : Header) : Type 0 where
   pub places : (p : ℕ) → p < 51 * (blocks_for h.boxes - 1) → place_rule f h p ≡ true
 
 -- A check that a file passed did not refuse it.
-pub passed : (broken : Bool) {otherwise : Checked} (number detail : ℕ) {h : Header} → refuse_if broken number detail otherwise ≡ Ok h
+pub passed : (broken : Bool) {otherwise : Result Header Refusal} (number detail : ℕ) {h : Header} → refuse_if broken number detail otherwise ≡ Ok h
     → (broken ≡ false) × (otherwise ≡ Ok h)
 passed true number detail e = let z : ◌≡◌ {A = ℕ} 0 1 = cc in absurd (omega arith)
 passed false number detail e = (refl, e)
 
 -- No refusal has a number above 6.
-six_at_most : (broken : Bool) {otherwise : Checked} (number detail : ℕ) (r : Refusal) → number ≤ 6 → refuse_if broken number detail otherwise ≡ Err r
+six_at_most : (broken : Bool) {otherwise : Result Header Refusal} (number detail : ℕ) (r : Refusal) → number ≤ 6 → refuse_if broken number detail otherwise ≡ Err r
     → (otherwise ≡ Err r → r.number ≤ 6) → r.number ≤ 6
 six_at_most true number detail r l e rest =
     let same : refusal number detail ≡ r = cc in

@@ -72,17 +72,13 @@ box_rule h b = well_formed h.edition h.inputs h.boxes b
 unfoldable pub place_rule : List ℕ → Header → ℕ → Bool
 place_rule f h p = cond (ltb p h.boxes) (box_rule h (place_of f p)) (all_zero (place_of f p))
 
--- What load's input checks answer: the header, or a refusal.
-abbrev pub Checked : Type 0
-Checked = Result Header Refusal
-
 -- A rule of a chart's file, which refuses it by a number and a detail where it is broken.
-abbrev pub refuse_if : (broken : Bool) (number detail : ℕ) → Checked → Checked
+abbrev pub refuse_if : (broken : Bool) (number detail : ℕ) → Result Header Refusal → Result Header Refusal
 refuse_if broken number detail otherwise = refuse_into Err broken number detail otherwise
 
 -- Load's input checks, "1 to 6 in order": "2: .. Detail: the first such block." "5: the length
 -- doesn't fit n." "6: .. Detail: the first such place."
-unfoldable pub check_file : List ℕ → Checked
+unfoldable pub check_file : List ℕ → Result Header Refusal
 check_file f =
     let blocks = blocks_of f in
     let wrong = first_failing (check_rule f (header_of f)) blocks in

@@ -1,6 +1,7 @@
 -- The claims about lines: an accepted one prints an ending, by `one_advance_ends`; and a begin
 -- starts one run on any runner that holds the chart. Assumes nothing.
-use Rattle.std.specs.Prelude.{Ok, Err}
+use Rattle.std.specs.Prelude.{Ok, Err, Result, ⊤}
+use Rattle.block.specs.declared.Refusal.{Refusal}
 use Prim.Native.Nat.{◌-◌}
 use mathlib.Core.Path.{◌≡◌, refl, ap, ◌∙◌}
 use mathlib.Core.Bool.{false, cond}
@@ -8,7 +9,7 @@ use lib.Dec.{eqb}
 use Rattle.boxes.specs.Bytes.{at, part}
 use Rattle.chart.specs.Chart.{Chart}
 use Rattle.begin.proofs.Begins.{effective_fits}
-use Rattle.calls.specs.Calls.{answer, check, Verdict}
+use Rattle.calls.specs.Calls.{answer, check}
 use Rattle.line.specs.Parsing.{parse}
 use Rattle.line.specs.declared.parsing.Numbers.{Numbers}
 use Rattle.texts.specs.Printing.{refused_text}
@@ -31,7 +32,7 @@ module _ (r r' : Runner) (same : chart_in r ≡ chart_in r') (o : is_running r �
   unfolding check
   checks_same ns = let h : r.header ≡ r'.header = ap (λ (c : Chart). c.header) same in rw (h, o, o') refl
 
-  answers_same : (v : Verdict) (ns : Numbers) → answered (outcome_by v (begin_of ns) r) ≡ answered (outcome_by v (begin_of ns) r')
+  answers_same : (v : Result ⊤ Refusal) (ns : Numbers) → answered (outcome_by v (begin_of ns) r) ≡ answered (outcome_by v (begin_of ns) r')
   unfolding outcome_by answered after says is_accepted
   answers_same (Ok _) ns =
       ap (λ (y : Runner). reply_text (call answer (run_out y)).told.reply)
@@ -43,5 +44,5 @@ unfolding respond call
 lines_apart r r' same o o' number line =
     let ns = parse line in
     ap (cond (eqb ns.count 0) (refused_text 11 number))
-    (ap (λ (v : Verdict). answered (outcome_by v (begin_of ns) r)) (checks_same r r' same o o' ns)
+    (ap (λ (v : Result ⊤ Refusal). answered (outcome_by v (begin_of ns) r)) (checks_same r r' same o o' ns)
     ∙ answers_same r r' same o o' (check (begin_of ns) (standing_of r')) ns)

@@ -1,6 +1,6 @@
 -- What the calls' promises say of the texts: load's reply, and a begin, a run to its end and its
 -- answer. Assumes nothing.
-use Rattle.std.specs.Prelude.{Ok, Err}
+use Rattle.std.specs.Prelude.{Ok, Err, Result, ⊤}
 use Prim.Native.Nat.{ℕ}
 use mathlib.Core.Path.{◌≡◌, refl, ap, sym, ◌∙◌}
 use mathlib.Core.List.{List, []}
@@ -10,7 +10,7 @@ use borrow.Author.Tests.{eq-eqb, ne_eqb}
 use Rattle.io.specs.Counts.{IsPrefixLen}
 use Rattle.texts.proofs.Fronts.{printed_counts}
 use Rattle.block.specs.declared.Refusal.{Refusal}
-use Rattle.calls.specs.Calls.{advance, answer, Verdict}
+use Rattle.calls.specs.Calls.{advance, answer}
 use Rattle.line.specs.Parsing.{parse}
 use Rattle.texts.specs.Printing.{chart_text, refused_text, printed, printed_length}
 use Rattle.line.specs.declared.parsing.Numbers.{Numbers}
@@ -58,7 +58,7 @@ module _ (s : Runner) (number : ℕ) (line : List ℕ) (ns : Numbers) (p : ns �
   unfolding respond
   ill_formed z q = rw (sym p, eq-eqb ns.count 0 z) q
 
-  module _ (z : ns.count ≡ 0 → ⊥) (x : Verdict) (next : Runner) (e : outcome (verdict_reply x) [] next ≡ call (begin_of ns) s) where
+  module _ (z : ns.count ≡ 0 → ⊥) (x : Result ⊤ Refusal) (next : Runner) (e : outcome (verdict_reply x) [] next ≡ call (begin_of ns) s) where
     pub refuses : (y : Refusal) → x ≡ Err y → Prints (refused_text y.number y.detail) r out after → Responds
     unfolding respond answered verdict_reply reply_text is_accepted
     refuses y w q = rw (sym p, ne_eqb ns.count 0 z, sym e, w) q

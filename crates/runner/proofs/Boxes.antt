@@ -1,7 +1,7 @@
 -- The loop of advance: what the box at hand does, by the act that the code computed of it, how the
 -- run ends or goes on after it, and what advance leaves and tells where the loop is left. Assumes
 -- nothing.
-use Rattle.std.specs.Prelude.{Result, Ok, Err}
+use Rattle.std.specs.Prelude.{Result, Ok, Err, ⊤}
 use Prim.Native.Nat.{ℕ, zero, suc, ◌+◌, ◌-◌, ◌*◌, ◌%◌, ◌^◌, ◌<◌, ◌≤◌}
 use mathlib.Core.Path.{◌≡◌, refl, ap, sym, ◌∙◌, subst}
 use mathlib.Core.Logic.{◌⊎◌, inl, inr, ⊎_elim}
@@ -32,7 +32,7 @@ use Rattle.machine.specs.declared.Act.{Act}
 use Rattle.machine.specs.declared.Act.TheVariants.{Store}
 use Rattle.machine.proofs.Acts.{SixteenInputs, sixteen_set, act_by_masks, StoresSixteen, stores_sixteen}
 use Rattle.machine.proofs.Runs.{over_still, run_one, run_none, goes_spent, goes_further}
-use Rattle.calls.specs.Calls.{by_verdict, check, Verdict}
+use Rattle.calls.specs.Calls.{by_verdict, check}
 use Rattle.calls.specs.Calls as calls
 use Rattle.runner.specs.declared.Runner.{Runner}
 use Rattle.runner.specs.declared.Advanced.{Advanced}
@@ -318,7 +318,7 @@ module _ (m todo : ℕ) (r s next : Runner) (at end value named steps : ℕ) (to
       absurd (omega arith))
       came
 
-  pub advance_came : (verdict : Verdict) → verdict ≡ check (calls.advance m) (standing_of r)
+  pub advance_came : (verdict : Result ⊤ Refusal) → verdict ≡ check (calls.advance m) (standing_of r)
       → todo ≡ by_verdict verdict m (λ x. 0)
       → advance_reply told ≡ by_verdict verdict (cond (eqb end 1) (outcomes.running steps) (outcomes.ended (cond hidden 0 steps))) outcomes.turned_away
       → outcome (advance_reply told) [] next ≡ call (calls.advance m) r

@@ -1,6 +1,6 @@
 -- The outcome of each call, case by case, over plain variables: what the proof of a method cites
 -- where it returns. Assumes nothing.
-use Rattle.std.specs.Prelude.{Result, Ok, Err}
+use Rattle.std.specs.Prelude.{Result, Ok, Err, ⊤}
 use Prim.Native.Nat.{ℕ, ◌≤◌, ◌<◌}
 use mathlib.Core.Path.{◌≡◌, ap, sym, ◌∙◌}
 use mathlib.Core.List.{List, []}
@@ -17,7 +17,7 @@ use Rattle.rewrite.specs.Rewrite.{rewritten}
 use Rattle.marks.specs.Marks.{mode_of}
 use Rattle.machine.specs.Run.{Progress}
 use Rattle.begin.specs.Begin.{effective, first_vars, first_marks}
-use Rattle.calls.specs.Calls.{Call, refuse, file_verdict, check, Verdict}
+use Rattle.calls.specs.Calls.{Call, refuse, file_verdict, check}
 use Rattle.calls.specs.Calls as calls
 use Rattle.calls.proofs.Permits.{write_back_fits}
 use Rattle.runner.specs.declared.Runner.{Runner}
@@ -29,9 +29,9 @@ use Rattle.runner.specs.Outcomes.{outcome, after, progress_reply, says, outcome_
 use Rattle.runner.specs.Outcomes as outcomes
 use Rattle.runner.specs.Replies.{load_reply, verdict_reply, advance_reply, answer_reply, written_reply}
 
-by_verdict_lem : (c : Call) (r : Runner) (v : Verdict) → check c (standing_of r) ≡ v → outcome_by v c r ≡ call c r
+by_verdict_lem : (c : Call) (r : Runner) (v : Result ⊤ Refusal) → check c (standing_of r) ≡ v → outcome_by v c r ≡ call c r
 unfolding call
-by_verdict_lem c r v e = sym (ap (λ (x : Verdict). outcome_by x c r) e)
+by_verdict_lem c r v e = sym (ap (λ (x : Result ⊤ Refusal). outcome_by x c r) e)
 
 -- Load.
 module _ (file : List ℕ) (r : Runner) where
@@ -69,11 +69,11 @@ module _ (mode : ℕ) (inputs : List ℕ) (allowed limit : ℕ) (r : Runner) whe
       ∙ ap (λ (x : ℕ). outcome outcomes.done [] (started_with (first_vars inputs) (first_marks allowed r.header.inputs) x)) el
       ∙ by_verdict_lem (calls.begin mode inputs allowed limit) r (Ok tt) (sym e)
 
-  pub begin_refuses : (v : Verdict) (x : Refusal) → v ≡ check (calls.begin mode inputs allowed limit) (standing_of r) → v ≡ Err x
+  pub begin_refuses : (v : Result ⊤ Refusal) (x : Refusal) → v ≡ check (calls.begin mode inputs allowed limit) (standing_of r) → v ≡ Err x
       → outcome (verdict_reply v) [] r ≡ call (calls.begin mode inputs allowed limit) r
   unfolding verdict_reply outcome_by
   begin_refuses v x e d =
-      ap (λ (y : Verdict). outcome (verdict_reply y) [] r) d ∙ by_verdict_lem (calls.begin mode inputs allowed limit) r (Err x) (sym e ∙ d)
+      ap (λ (y : Result ⊤ Refusal). outcome (verdict_reply y) [] r) d ∙ by_verdict_lem (calls.begin mode inputs allowed limit) r (Err x) (sym e ∙ d)
 
 -- Advance: a run that has come to something, and one that is refused.
 module _ (m : ℕ) (r next : Runner) (told : Result Advanced Refusal) where
@@ -97,9 +97,9 @@ module _ (m : ℕ) (r next : Runner) (told : Result Advanced Refusal) where
 
 -- Abandon, answer, write back and the rewriter.
 module _ (r : Runner) where
-  pub abandon_refuses : (v : Verdict) → (r.state ≡ 1 → ⊥) → v ≡ refuse 23 → outcome (verdict_reply v) [] r ≡ call calls.abandon r
+  pub abandon_refuses : (v : Result ⊤ Refusal) → (r.state ≡ 1 → ⊥) → v ≡ refuse 23 → outcome (verdict_reply v) [] r ≡ call calls.abandon r
   unfolding check verdict_reply outcome_by
-  abandon_refuses v n e = ap (λ (x : Verdict). outcome (verdict_reply x) [] r) e ∙ by_verdict_lem calls.abandon r (refuse 23) (rw (ne_eqb _ _ n))
+  abandon_refuses v n e = ap (λ (x : Result ⊤ Refusal). outcome (verdict_reply x) [] r) e ∙ by_verdict_lem calls.abandon r (refuse 23) (rw (ne_eqb _ _ n))
 
   pub abandon_drops : (q : Runner) → r.state ≡ 1 → q ≡ dropped r → outcome (verdict_reply (Ok tt)) [] q ≡ call calls.abandon r
   unfolding check verdict_reply outcome_by says after
@@ -136,7 +136,7 @@ module _ (r : Runner) where
       ∙ ap (λ (b : List ℕ). outcome (outcomes.wrote (file_length r.header)) b r) (d ∙ put_fits r.header r.table buffer fits.0 fits.1)
       ∙ by_verdict_lem (calls.write_back buffer) r (Ok tt) (sym v)
 
-  pub write_back_refuses : (v : Verdict) (x : Refusal) (buffer : List ℕ) → v ≡ check (calls.write_back buffer) (standing_of r) → v ≡ Err x
+  pub write_back_refuses : (v : Result ⊤ Refusal) (x : Refusal) (buffer : List ℕ) → v ≡ check (calls.write_back buffer) (standing_of r) → v ≡ Err x
       → outcome (written_reply (Err x)) buffer r ≡ call (calls.write_back buffer) r
   unfolding written_reply outcome_by
   write_back_refuses v x buffer e d = by_verdict_lem (calls.write_back buffer) r (Err x) (sym e ∙ d)
@@ -148,8 +148,8 @@ module _ (r : Runner) where
   rewrite_accepts table next v t d =
       ap (outcome outcomes.done []) (d ∙ ap (λ (x : List ℕ). idle (record { header = r.header; table = x })) t) ∙ by_verdict_lem calls.rewrite r (Ok tt) (sym v)
 
-  pub rewrite_refuses : (v : Verdict) (x : Refusal) → v ≡ check calls.rewrite (standing_of r) → v ≡ Err x
+  pub rewrite_refuses : (v : Result ⊤ Refusal) (x : Refusal) → v ≡ check calls.rewrite (standing_of r) → v ≡ Err x
       → outcome (verdict_reply v) [] r ≡ call calls.rewrite r
   unfolding verdict_reply outcome_by
   rewrite_refuses v x e d =
-      ap (λ (y : Verdict). outcome (verdict_reply y) [] r) d ∙ by_verdict_lem calls.rewrite r (Err x) (sym e ∙ d)
+      ap (λ (y : Result ⊤ Refusal). outcome (verdict_reply y) [] r) d ∙ by_verdict_lem calls.rewrite r (Err x) (sym e ∙ d)

@@ -1,6 +1,6 @@
 -- The seven calls, by one definition: what refuses a call, and else what it tells, the lent buffer
 -- and the runner afterwards.
-use Rattle.std.specs.Prelude.{Ok, Err, ℕ, List, [], cond}
+use Rattle.std.specs.Prelude.{Ok, Err, ℕ, List, [], cond, Result, ⊤}
 use Rattle.format.specs.File.{header_of}
 use Rattle.block.specs.declared.Refusal.{Refusal}
 use Rattle.chart.specs.Chart.{Chart, chart_of}
@@ -10,7 +10,7 @@ use Rattle.marks.specs.Marks.{Mode, mode_of, hides}
 use Rattle.machine.specs.Run.{Run, Ending, Progress, going, over}
 use Rattle.begin.specs.Begin.{effective}
 use Rattle.runs.specs.Whole.{Flowchart, start_of}
-use Rattle.calls.specs.Calls.{Call, load, begin, advance, answer, abandon, write_back, rewrite, check, Verdict}
+use Rattle.calls.specs.Calls.{Call, load, begin, advance, answer, abandon, write_back, rewrite, check}
 use Rattle.runner.specs.declared.Runner.{Runner}
 use Rattle.runner.specs.State.{chart_in, flowchart_in, standing_of, ending_in, under_way, idle, dropped, ran, resumed}
 
@@ -107,7 +107,7 @@ turned_away x = refused x.number x.detail
 
 -- The outcome of a call by its verdict: a refusal changes neither the runner nor a byte of the lent
 -- buffer.
-unfoldable pub outcome_by : Verdict → Call → Runner → Outcome
+unfoldable pub outcome_by : Result ⊤ Refusal → Call → Runner → Outcome
 outcome_by (Ok _) c r = outcome (says c r) (lent_as (with_file r.header r.table) c) (after (effect c) r)
 outcome_by (Err x) c r = outcome (turned_away x) (lent c) r
 

@@ -1,10 +1,8 @@
 -- What the code's answers tell, one definition for each type: document 01's number, detail and
 -- values for every case.
-use Rattle.std.specs.Prelude.{Result, Ok, Err, ⊤}
+use Rattle.std.specs.Prelude.{Result, Ok, Err, ⊤, ℕ}
 use Rattle.block.specs.declared.Refusal.{Refusal}
-use Rattle.chart.specs.WriteBack.{Written}
 use Rattle.machine.specs.Run.{valued, notice, spent}
-use Rattle.calls.specs.Calls.{Verdict}
 use Rattle.runner.specs.Outcomes.{Reply, done, chart, running, ended, ending, wrote, turned_away}
 use Rattle.runner.specs.declared.Loaded.{Loaded}
 use Rattle.runner.specs.declared.Advanced.{Advanced}
@@ -20,7 +18,7 @@ reply_by tells (Err x) = turned_away x
 unfoldable pub load_reply : Result Loaded Refusal → Reply
 load_reply told = reply_by (λ (c : Loaded). chart c.inputs c.boxes) told
 
-unfoldable pub verdict_reply : Verdict → Reply
+unfoldable pub verdict_reply : Result ⊤ Refusal → Reply
 verdict_reply told = reply_by (λ (u : ⊤). done) told
 
 abbrev pub progress_told : Advanced → Reply
@@ -38,5 +36,5 @@ ending_told (Spent steps) = ending spent steps
 unfoldable pub answer_reply : Result Answered Refusal → Reply
 answer_reply told = reply_by ending_told told
 
-unfoldable pub written_reply : Written → Reply
+unfoldable pub written_reply : Result ℕ Refusal → Reply
 written_reply told = reply_by wrote told

@@ -1,11 +1,13 @@
 -- The verdict is that of the rules of begin; a mode and a limit that they let pass fit their
 -- fields.
+use Rattle.std.specs.Prelude.{Result, ⊤}
+use Rattle.block.specs.declared.Refusal.{Refusal}
 use mathlib.Core.Path.{◌≡◌, refl, ap, sym, ◌∙◌}
 use mathlib.Core.List.{List}
 use Prim.Native.Nat.{ℕ}
 use borrow.Author.Rules.{rules}
 use Rattle.begin.proofs.Begins.{effective_fits}
-use Rattle.calls.specs.Calls.{Verdict, check}
+use Rattle.calls.specs.Calls.{check}
 use Rattle.calls.specs.Calls as calls
 use Rattle.calls.proofs.Permits.{permitted}
 use Rattle.calls.specs.declared.Standing.{Standing}
@@ -15,7 +17,7 @@ use Rattle.runner.proofs.Outcomes.{begin_accepts, begin_refuses}
 use Rattle.runner.proofs.Runner.begin.Goals as goal
 
 -- The verdict is on what the refusals look at of the runner.
-judged : (mode : ℕ) (inputs : List ℕ) (allowed limit : ℕ) (r : Runner) (s : Standing) (v : Verdict) → v ≡ check (calls.begin mode inputs allowed limit) s
+judged : (mode : ℕ) (inputs : List ℕ) (allowed limit : ℕ) (r : Runner) (s : Standing) (v : Result ⊤ Refusal) → v ≡ check (calls.begin mode inputs allowed limit) s
     → s ≡ standing_of r → v ≡ check (calls.begin mode inputs allowed limit) (standing_of r)
 judged mode inputs allowed limit r s v is e = is ∙ ap (check (calls.begin mode inputs allowed limit)) e
 
