@@ -1,260 +1,219 @@
 // A run: its variables and marks, and the boxes that it takes out of the file one by one.
-use crate::blocks::{byte, constant, field};
-use crate::numbers::{compares, meaning_of, result};
-use crate::rules::{reads_left, reads_right};
+use crate::boxes::ChartBox;
+use crate::chart::Chart;
 
-// Word j of `marks` is about input j alone: its bit v is set where the set of variable v has input
-// j.
-// `counter` is one set, bit j for input j. `phase` is 0 with no run, 1 under way, and the kind that
-// answer tells once the run has ended: 4 value, 5 notice, 6 spent. `carried` goes with the phase:
-// the
-// value of 4, the set that 5 names, else 0. `steps` is the count of the boxes run, and 0 after a
-// high-water notice.
+#[derive(Clone, Copy, Debug, PartialEq, Eq)]
+pub enum Mode {
+    Bare,
+    Surveillance,
+    HighWater,
+}
+
+impl Mode {
+    pub fn of(number: u32) -> Option<Mode> {
+        match number {
+            0 => Some(Mode::Bare),
+            1 => Some(Mode::Surveillance),
+            2 => Some(Mode::HighWater),
+            _ => None,
+        }
+    }
+}
+
+// How a run ends. `named` is the set of the inputs named, bit j for input j.
+#[derive(Clone, Copy, Debug, PartialEq, Eq)]
+pub enum Ending {
+    Value { value: u32, steps: u32 },
+    Notice { steps: u32, named: u32 },
+    Spent { steps: u32 },
+}
+
+// A run under way. Word j of `marks` is about input j alone: its bit v is set where the set of
+// variable v has input j. `counter` is one set, bit j for input j. `at` is the box at hand, and
+// `steps` the count of the boxes run.
 #[derive(Clone, Copy)]
 pub struct Run {
-    pub vars: [u32; 32],
-    pub marks: [u32; 16],
-    pub counter: u32,
-    pub mode: u32,
-    pub at: u32,
+    vars: [u32; 32],
+    marks: [u32; 16],
+    counter: u32,
+    pub mode: Mode,
+    at: u8,
     pub steps: u32,
     pub limit: u32,
-    pub phase: u32,
-    pub carried: u32,
 }
 
 // 2 to the power of `v`, which is below 32.
-pub fn bit(v: u32) -> u32 {
-    1u32 << (v % 32)
+pub fn bit(v: u8) -> u32 {
+    1 << (v % 32)
 }
 
-// The set of the inputs below `k` that are not in `allowed`, itself a set of such inputs.
-pub fn withheld(k: u32, allowed: u32) -> u32 {
-    let inputs = std::num::wrapping_sub_u32(bit(k), 1);
-    std::num::wrapping_sub_u32(inputs, allowed)
-}
-
-// The marks that give each input of `set` itself alone, and every other variable nothing.
-fn alone(set: u32) -> [u32; 16] {
-    let mut marks = [0u32; 16];
-    for j in 0..16 {
-        marks[j] = set & bit(j as u32);
-    }
-    marks
-}
-
-// A run at box `first`, with the inputs in `set` withheld.
-pub fn started(vars: [u32; 32], set: u32, mode: u32, first: u32, limit: u32) -> Run {
-    let marks = alone(set);
-    Run {
-        vars,
-        marks,
-        counter: 0,
-        mode,
-        at: first,
-        steps: 0,
-        limit,
-        phase: 1,
-        carried: 0,
+// The word of one input after a guarded assignment to `target` from the variables in `read`. A bare
+// run leaves it as it is.
+fn word_after(mode: Mode, word: u32, target: u8, read: u32) -> u32 {
+    match mode {
+        Mode::Bare => word,
+        _ if word & read != 0 => word | bit(target),
+        Mode::Surveillance => word & !bit(target),
+        Mode::HighWater => word,
     }
 }
 
-// The variables that an operation of this meaning reads, bit v for variable v; an operand that it
-// does not read counts for nothing.
-fn read_by(meaning: u32, left: u32, right: u32) -> u32 {
-    let mut read: u32 = 0;
-    if reads_left(meaning) {
-        read = bit(left);
-    }
-    if reads_right(meaning) {
-        read = read | bit(right);
-    }
-    read
-}
-
-// The union of the sets of the variables in `read`: the inputs whose words meet it.
-fn named(marks: &[u32; 16], read: u32) -> u32 {
-    let mut set: u32 = 0;
-    for j in 0..16 {
-        if marks[j] & read != 0 {
-            set = set | bit(j as u32);
+impl Run {
+    // A run of a chart at its first box, in which the inputs in `allowed` are not withheld, a set
+    // of inputs that the chart has.
+    pub fn start(chart: &Chart, mode: Mode, inputs: &[u32], allowed: u32, limit: u32) -> Run {
+        let mut vars = [0; 32];
+        for (var, input) in vars.iter_mut().zip(inputs) {
+            *var = *input;
+        }
+        let mut marks = [0; 16];
+        for (mark, input) in marks.iter_mut().zip(0..chart.inputs) {
+            *mark = bit(input) & !allowed;
+        }
+        Run {
+            vars,
+            marks,
+            counter: 0,
+            mode,
+            at: chart.first,
+            steps: 0,
+            limit,
         }
     }
-    set
-}
 
-// The word of one input after a guarded assignment to `target` from the variables in `read`.
-fn word_after(mode: u32, word: u32, target: u32, read: u32) -> u32 {
-    if word & read != 0 {
-        return word | bit(target);
+    fn value(&self, variable: u8) -> u32 {
+        self.vars[usize::from(variable % 32)]
     }
-    if (mode == 2) | (word & bit(target) == 0) {
-        return word;
-    }
-    word ^ bit(target)
-}
 
-// The marks after an assignment; a bare run leaves them as they are. Each word follows from itself:
-// no rule lets one input into a set because of another.
-fn marks_after(mode: u32, marks: [u32; 16], target: u32, read: u32) -> [u32; 16] {
-    let mut after = marks;
-    if mode == 0 {
-        return after;
-    }
-    for j in 0..16 {
-        after[j] = word_after(mode, after[j], target, read);
-    }
-    after
-}
-
-// The end of a run, or no run at all where `phase` is 0.
-pub fn stopped(mut run: Run, phase: u32, carried: u32) -> Run {
-    run.vars = [0u32; 32];
-    run.marks = [0u32; 16];
-    run.counter = 0;
-    run.phase = phase;
-    run.carried = carried;
-    run
-}
-
-// The notice of a high-water run: no count and no set, as either could follow withheld inputs.
-fn uncounted(mut run: Run) -> Run {
-    run.steps = 0;
-    stopped(run, 5, 0)
-}
-
-fn assigned(mut run: Run, file: &[u8]) -> Run {
-    let at = run.at;
-    let mode = run.mode;
-    let marks = run.marks;
-    let target = field(file, at, 1);
-    let meaning = meaning_of(byte(file, 4), field(file, at, 2));
-    let left = field(file, at, 3);
-    let right = field(file, at, 4);
-    let i = (left % 32) as usize;
-    let j = (right % 32) as usize;
-    let t = (target % 32) as usize;
-    let x = run.vars[i];
-    let y = run.vars[j];
-    let z = result(meaning, constant(file, at), x, y);
-    run.vars[t] = z;
-    let after = marks_after(mode, marks, target, read_by(meaning, left, right));
-    run.marks = after;
-    run.at = field(file, at, 5);
-    run
-}
-
-fn decided(mut run: Run, file: &[u8]) -> Run {
-    let at = run.at;
-    let mode = run.mode;
-    let marks = run.marks;
-    let counter = run.counter;
-    let left = field(file, at, 3);
-    let right = field(file, at, 4);
-    let set = named(&marks, bit(left) | bit(right));
-    if (mode == 1) & (set != 0) {
-        return stopped(run, 5, set);
-    }
-    run.counter = counter | set;
-    let i = (left % 32) as usize;
-    let j = (right % 32) as usize;
-    let x = run.vars[i];
-    let y = run.vars[j];
-    if compares(field(file, at, 2), x, y) {
-        run.at = field(file, at, 5);
-    } else {
-        run.at = field(file, at, 6);
-    }
-    run
-}
-
-// A choice is an assignment that reads four variables: the two compared and the two that it may
-// copy.
-// It ends no run and leaves the counter's set.
-fn chosen(mut run: Run, file: &[u8]) -> Run {
-    let at = run.at;
-    let mode = run.mode;
-    let marks = run.marks;
-    let target = field(file, at, 1);
-    let left = field(file, at, 3);
-    let right = field(file, at, 4);
-    let if_true = field(file, at, 6);
-    let if_false = field(file, at, 7);
-    let i = (left % 32) as usize;
-    let j = (right % 32) as usize;
-    let t = (target % 32) as usize;
-    let x = run.vars[i];
-    let y = run.vars[j];
-    let source = if compares(field(file, at, 2), x, y) {
-        if_true
-    } else {
-        if_false
-    };
-    let s = (source % 32) as usize;
-    let z = run.vars[s];
-    run.vars[t] = z;
-    let read = bit(left) | bit(right) | bit(if_true) | bit(if_false);
-    let after = marks_after(mode, marks, target, read);
-    run.marks = after;
-    run.at = field(file, at, 5);
-    run
-}
-
-fn halted(run: Run) -> Run {
-    let mode = run.mode;
-    let marks = run.marks;
-    let counter = run.counter;
-    let value = run.vars[31];
-    let set = named(&marks, bit(31));
-    if (mode == 1) & (set != 0) {
-        return stopped(run, 5, set);
-    }
-    if (mode == 2) & ((set | counter) != 0) {
-        return uncounted(run);
-    }
-    stopped(run, 4, value)
-}
-
-// A run after a box is counted: spent where the count is the limit, unless that box ended it. A
-// high-water run that is spent ends as its notice does.
-fn limited(run: Run) -> Run {
-    let phase = run.phase;
-    let mode = run.mode;
-    let steps = run.steps;
-    let limit = run.limit;
-    if (phase != 1) | (steps != limit) {
-        return run;
-    }
-    if mode == 2 {
-        return uncounted(run);
-    }
-    stopped(run, 6, 0)
-}
-
-// One box, counted.
-fn step(mut run: Run, file: &[u8]) -> Run {
-    let at = run.at;
-    let steps = run.steps;
-    run.steps = std::num::wrapping_add_u32(steps, 1);
-    match field(file, at, 0) {
-        1 => limited(assigned(run, file)),
-        2 => limited(decided(run, file)),
-        4 => limited(chosen(run, file)),
-        _ => halted(run),
-    }
-}
-
-// Up to `count` boxes, fewer where the run ends.
-pub fn stepped(run: Run, file: &[u8], count: u32) -> Run {
-    let mut now = run;
-    let mut left = count;
-    while 0 < left {
-        let phase = now.phase;
-        if phase != 1 {
-            return now;
+    // The union of the sets of the variables in `read`: the inputs whose words meet it.
+    fn named(&self, read: u32) -> u32 {
+        let mut set = 0;
+        for (word, input) in self.marks.iter().zip(0..) {
+            if word & read != 0 {
+                set |= bit(input);
+            }
         }
-        now = step(now, file);
-        left -= 1;
+        set
     }
-    now
+
+    // A value is stored that was made of the variables in `read`. Each word of the marks follows
+    // from itself: no rule lets one input into a set because of another.
+    fn assign(&mut self, target: u8, value: u32, read: u32, next: u8) {
+        self.vars[usize::from(target % 32)] = value;
+        for word in &mut self.marks {
+            *word = word_after(self.mode, *word, target, read);
+        }
+        self.at = next;
+    }
+
+    // The notice of a high-water run: no count and no set, as either could follow withheld inputs.
+    fn uncounted() -> Ending {
+        Ending::Notice { steps: 0, named: 0 }
+    }
+
+    fn notice(&self, named: u32) -> Ending {
+        Ending::Notice {
+            steps: self.steps,
+            named,
+        }
+    }
+
+    // Where a decision reads a mark, a run under surveillance ends.
+    fn decide(&mut self, read: u32, next: u8) -> Option<Ending> {
+        let set = self.named(read);
+        if self.mode == Mode::Surveillance && set != 0 {
+            return Some(self.notice(set));
+        }
+        self.counter |= set;
+        self.at = next;
+        None
+    }
+
+    fn halt(&self) -> Ending {
+        let set = self.named(bit(31));
+        match self.mode {
+            Mode::Surveillance if set != 0 => self.notice(set),
+            Mode::HighWater if (set | self.counter) != 0 => Run::uncounted(),
+            _ => Ending::Value {
+                value: self.value(31),
+                steps: self.steps,
+            },
+        }
+    }
+
+    // A run after a box is counted: spent where the count is the limit. A high-water run that is
+    // spent ends as its notice does.
+    fn limited(&self) -> Option<Ending> {
+        if self.steps != self.limit {
+            return None;
+        }
+        match self.mode {
+            Mode::HighWater => Some(Run::uncounted()),
+            _ => Some(Ending::Spent { steps: self.steps }),
+        }
+    }
+
+    // One box, counted, and how the run ends, where it does. A choice is an assignment that reads
+    // four variables: the two compared and the two that it may copy. It ends no run and leaves the
+    // counter's set.
+    fn step(&mut self, chart: &Chart) -> Option<Ending> {
+        self.steps = self.steps.wrapping_add(1);
+        match chart.box_at(self.at) {
+            Some(ChartBox::Assignment {
+                target,
+                meaning,
+                left,
+                right,
+                next,
+                constant,
+            }) => {
+                let value = meaning.result_of(constant, self.value(left), self.value(right));
+                let left = if meaning.reads_left() { bit(left) } else { 0 };
+                let right = if meaning.reads_right() { bit(right) } else { 0 };
+                self.assign(target, value, left | right, next);
+            }
+            Some(ChartBox::Decision {
+                comparison,
+                left,
+                right,
+                if_true,
+                if_false,
+            }) => {
+                let holds = comparison.holds(self.value(left), self.value(right));
+                let next = if holds { if_true } else { if_false };
+                let ending = self.decide(bit(left) | bit(right), next);
+                if ending.is_some() {
+                    return ending;
+                }
+            }
+            Some(ChartBox::Choice {
+                target,
+                comparison,
+                left,
+                right,
+                next,
+                if_true,
+                if_false,
+            }) => {
+                let holds = comparison.holds(self.value(left), self.value(right));
+                let source = if holds { if_true } else { if_false };
+                let read = bit(left) | bit(right) | bit(if_true) | bit(if_false);
+                self.assign(target, self.value(source), read, next);
+            }
+            // A chart has no other box.
+            Some(ChartBox::Halt) | None => return Some(self.halt()),
+        }
+        self.limited()
+    }
+
+    // Up to `count` boxes, fewer where the run ends; how it ends, where it does.
+    pub fn advance(&mut self, chart: &Chart, count: u32) -> Option<Ending> {
+        for _ in 0..count {
+            let ending = self.step(chart);
+            if ending.is_some() {
+                return ending;
+            }
+        }
+        None
+    }
 }

@@ -1,9 +1,0 @@
--- `test_second::machine::stepped` is safe and ends. The measure is how many boxes are left to run.
--- Assumes nothing.
-use Rattle.test_second.proofs.machine.stepped.Given as goal
-
-abbrev pub invariant-loop-left : goal.invariant-loop-left
-invariant-loop-left l = Unit {0}
-
-abbrev pub decreases-loop-left : goal.decreases-loop-left
-decreases-loop-left l = l.left

@@ -1,9 +1,0 @@
--- `test_second::numbers::ones` is safe and ends. The measure is what is left of the number.
--- Assumes nothing.
-use Rattle.test_second.proofs.numbers.ones.Given as goal
-
-abbrev pub invariant-loop-rest : goal.invariant-loop-rest
-invariant-loop-rest l = Unit {0}
-
-abbrev pub decreases-loop-rest : goal.decreases-loop-rest
-decreases-loop-rest l = l.rest
