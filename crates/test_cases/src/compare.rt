@@ -2,10 +2,11 @@
 // `encoding` by itself.
 use encoding::{Encoded, kinds};
 use runner::Runner;
-use test_second::Model;
+use test_second::{Model, Numbers, Told};
 
-pub fn of_model(t: test_second::Told) -> Encoded {
-    encoding::make(t.kind, t.first as u64, t.second)
+pub fn of_model(told: Told) -> Encoded {
+    let numbers = Numbers::from(told);
+    encoding::make(numbers.kind, u64::from(numbers.first), numbers.second)
 }
 
 pub fn same(a: Encoded, b: Encoded) -> bool {
@@ -33,7 +34,7 @@ pub fn one_chart(a: Runner, b: Runner) -> bool {
 // The same of a runner and a model.
 pub fn model_holds(model: Model, runner: Runner) -> bool {
     let mut one = [0u8; 2560];
-    model.write_back(&mut one);
+    let _ = model.write_back(&mut one);
     let two = file_of(runner);
     same_bytes(&one, &two)
 }

@@ -6,7 +6,7 @@ use runner::Runner;
 use std::io;
 use test_samples::files::{File, byte};
 use test_samples::{arguments, files};
-use test_second::{Model, Outcome};
+use test_second::{Model, Told};
 use test_text::text::part;
 
 // A difference: what differs, of which so many bytes are kept, the case and the call, and what the
@@ -78,28 +78,20 @@ pub fn new() -> Pair {
     }
 }
 
-// The ten bytes that the model points at in the file are those of the part that the first
-// implementation returned.
-fn same_part(part: &[u8], file: &[u8], at: usize) -> bool {
-    if at == 0 {
-        return part.len() == 0;
+// The ten bytes that the model shows are those of the part that the first implementation returned.
+fn same_part(part: &[u8], bytes: Option<[u8; 10]>) -> bool {
+    match bytes {
+        Some(bytes) => check::same(part, &bytes),
+        None => part.is_empty(),
     }
-    if file.len() < 10 {
-        return false;
-    }
-    if file.len() - 10 < at {
-        return false;
-    }
-    let end = at + 10;
-    check::same(part, &file[at..end])
 }
 
-// What the model tells of a box shown: where its ten bytes start, or 0.
-fn shown(file: &[u8], at: usize) -> Encoded {
-    if at == 0 {
-        return encoding::make(kinds::SHOWN, 0, 0);
+// What the model tells of a box shown.
+fn shown(bytes: Option<[u8; 10]>) -> Encoded {
+    match bytes {
+        Some(bytes) => encoding::make(kinds::SHOWN, 10, u32::from(bytes[0])),
+        None => encoding::make(kinds::SHOWN, 0, 0),
     }
-    encoding::make(kinds::SHOWN, 10, byte(file, at))
 }
 
 fn same_buffers(one: &[u8; 2640], two: &[u8; 2640]) -> bool {
@@ -198,7 +190,7 @@ impl Pair {
     }
 
     // What both told is compared, kept and counted; of a call that is just done, at `done`.
-    fn settle(mut self, what: &[u8], first: Encoded, model: test_second::Told, done: u32) -> Pair {
+    fn settle(mut self, what: &[u8], first: Encoded, model: Told, done: u32) -> Pair {
         let second = compare::of_model(model);
         self.told = first;
         self.calls = std::num::wrapping_add_u32(self.calls, 1);
@@ -209,25 +201,18 @@ impl Pair {
     }
 
     // The same of a call that changes both.
-    fn turn(mut self, what: &[u8], next: Runner, first: Encoded, turn: Outcome, done: u32) -> Pair {
-        let model = turn.model;
+    fn turn(mut self, what: &[u8], next: Runner, first: Encoded, second: Told, done: u32) -> Pair {
         self.runner = next;
-        self.model = model;
-        self.settle(what, first, turn.told, done)
+        self.settle(what, first, second, done)
     }
 
-    pub fn load(self, file: &[u8]) -> Pair {
+    pub fn load(mut self, file: &[u8]) -> Pair {
+        let second = self.model.load(file);
         let loaded = self.runner.load(file);
         let next = loaded.runner;
         let t = loaded.told;
-        self.turn(
-            b"load",
-            next,
-            encoding::of_load(t),
-            self.model.load(file),
-            0,
-        )
-        .hold(byte(file, 4))
+        self.turn(b"load", next, encoding::of_load(t), second, 0)
+            .hold(byte(file, 4))
     }
 
     // After a load of a file of an edition: the numbers of the chart held, and what the load is
@@ -246,16 +231,16 @@ impl Pair {
         pair
     }
 
-    pub fn begin(self, mode: u32, inputs: &[u32], allowed: u32, limit: u32) -> Pair {
+    pub fn begin(mut self, mode: u32, inputs: &[u32], allowed: u32, limit: u32) -> Pair {
+        let second = self.model.begin(mode, inputs, allowed, limit);
         let begun = self.runner.begin(mode, inputs, allowed, limit);
-        let turn = self.model.begin(mode, inputs, allowed, limit);
         let next = begun.runner;
         let t = begun.told;
         self.turn(
             b"begin",
             next,
             encoding::of_verdict(t),
-            turn,
+            second,
             counts::BEGUN + mode % 3,
         )
         .go_ahead(mode, limit)
@@ -269,9 +254,9 @@ impl Pair {
             return self;
         }
         let most = arguments::steps_within(limit);
-        let turn = self.model.advance(most);
-        let t = compare::of_model(turn.told);
-        let whole = compare::of_model(turn.model.answer());
+        let mut ahead = self.model;
+        let t = compare::of_model(ahead.advance(most));
+        let whole = compare::of_model(ahead.answer());
         self.whole = whole;
         self.mode = mode % 3;
         self.limit = most;
@@ -281,18 +266,13 @@ impl Pair {
         self
     }
 
-    pub fn advance(self, m: u32) -> Pair {
+    pub fn advance(mut self, m: u32) -> Pair {
+        let second = self.model.advance(m);
         let advanced = self.runner.advance(m);
         let next = advanced.runner;
         let t = advanced.told;
-        self.turn(
-            b"advance",
-            next,
-            encoding::of_advance(t),
-            self.model.advance(m),
-            0,
-        )
-        .end()
+        self.turn(b"advance", next, encoding::of_advance(t), second, 0)
+            .end()
     }
 
     // After an advance: of a run that has ended the answer is compared at once, and counted by mode
@@ -327,7 +307,8 @@ impl Pair {
         pair.differ(b"answer after the limit at once", first, whole)
     }
 
-    pub fn abandon(self) -> Pair {
+    pub fn abandon(mut self) -> Pair {
+        let second = self.model.abandon();
         let dropped = self.runner.abandon();
         let next = dropped.runner;
         let t = dropped.told;
@@ -335,12 +316,13 @@ impl Pair {
             b"abandon",
             next,
             encoding::of_verdict(t),
-            self.model.abandon(),
+            second,
             counts::DROPPED,
         )
     }
 
-    pub fn rewrite(self) -> Pair {
+    pub fn rewrite(mut self) -> Pair {
+        let second = self.model.rewrite();
         let before = self.runner;
         let rewritten = before.rewrite();
         let next = rewritten.runner;
@@ -349,7 +331,7 @@ impl Pair {
             b"rewrite",
             next,
             encoding::of_verdict(t),
-            self.model.rewrite(),
+            second,
             counts::REWRITTEN,
         )
         .hold_rewritten(before)
@@ -447,12 +429,12 @@ impl Pair {
     // Show a box: told as the length of the part and its first byte, and the bytes are compared.
     pub fn show(mut self, file: &[u8], number: u32) -> Pair {
         let part = chart::show_box(file, number);
-        let at = test_second::show(file, number);
+        let bytes = test_second::show(file, number);
         let first = encoding::make(kinds::SHOWN, part.len() as u64, byte(part, 0));
-        let second = shown(file, at);
+        let second = shown(bytes);
         self.told = first;
         self.calls = std::num::wrapping_add_u32(self.calls, 1);
-        if same_part(part, file, at) & compare::same(first, second) {
+        if same_part(part, bytes) & compare::same(first, second) {
             return self.count(counts::place(first, 0));
         }
         self.differ(b"show", first, second)

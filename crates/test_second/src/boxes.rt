@@ -53,9 +53,18 @@ impl ChartBox {
                 })
             }
             [3, 0, 0, 0, 0, 0, 0, 0, 0, 0] => Some(ChartBox::Halt),
-            [4, target, comparison, left, right, next, if_true, if_false, 0, 0]
-                if edition == Edition::Two =>
-            {
+            [
+                4,
+                target,
+                comparison,
+                left,
+                right,
+                next,
+                if_true,
+                if_false,
+                0,
+                0,
+            ] if edition == Edition::Two => {
                 Some(ChartBox::Choice {
                     target,
                     comparison: Comparison::of(comparison)?,

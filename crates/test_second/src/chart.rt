@@ -33,7 +33,18 @@ impl Chart {
         if let Some(block) = blocks::differing(file) {
             return Err(Refusal::Check(block));
         }
-        let [b'F', b'L', b'O', b'W', edition, inputs, boxes, first, zeros @ ..] = file else {
+        let [
+            b'F',
+            b'L',
+            b'O',
+            b'W',
+            edition,
+            inputs,
+            boxes,
+            first,
+            zeros @ ..,
+        ] = file
+        else {
             return Err(Refusal::Letters);
         };
         let edition = Edition::of(*edition).ok_or(Refusal::Letters)?;

@@ -13,9 +13,8 @@ mod numbers;
 mod told;
 
 use chart::Chart;
-use machine::{Mode, Run, bit};
-
 pub use machine::Ending;
+use machine::{Mode, Run, bit};
 pub use told::{Numbers, Refusal, Reply, Told};
 
 #[derive(Clone, Copy)]

@@ -159,26 +159,30 @@ impl Run {
     fn step(&mut self, chart: &Chart) -> Option<Ending> {
         self.steps = self.steps.wrapping_add(1);
         match chart.box_at(self.at) {
-            Some(ChartBox::Assignment {
-                target,
-                meaning,
-                left,
-                right,
-                next,
-                constant,
-            }) => {
+            Some(
+                ChartBox::Assignment {
+                    target,
+                    meaning,
+                    left,
+                    right,
+                    next,
+                    constant,
+                },
+            ) => {
                 let value = meaning.result_of(constant, self.value(left), self.value(right));
                 let left = if meaning.reads_left() { bit(left) } else { 0 };
                 let right = if meaning.reads_right() { bit(right) } else { 0 };
                 self.assign(target, value, left | right, next);
             }
-            Some(ChartBox::Decision {
-                comparison,
-                left,
-                right,
-                if_true,
-                if_false,
-            }) => {
+            Some(
+                ChartBox::Decision {
+                    comparison,
+                    left,
+                    right,
+                    if_true,
+                    if_false,
+                },
+            ) => {
                 let holds = comparison.holds(self.value(left), self.value(right));
                 let next = if holds { if_true } else { if_false };
                 let ending = self.decide(bit(left) | bit(right), next);
@@ -186,15 +190,17 @@ impl Run {
                     return ending;
                 }
             }
-            Some(ChartBox::Choice {
-                target,
-                comparison,
-                left,
-                right,
-                next,
-                if_true,
-                if_false,
-            }) => {
+            Some(
+                ChartBox::Choice {
+                    target,
+                    comparison,
+                    left,
+                    right,
+                    next,
+                    if_true,
+                    if_false,
+                },
+            ) => {
                 let holds = comparison.holds(self.value(left), self.value(right));
                 let source = if holds { if_true } else { if_false };
                 let read = bit(left) | bit(right) | bit(if_true) | bit(if_false);

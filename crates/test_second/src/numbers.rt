@@ -183,14 +183,10 @@ fn ones(x: u32) -> u32 {
 
 // 31 less the position of the highest one bit, or 32.
 fn leading_zeros(x: u32) -> u32 {
-    (0..32)
-        .find(|zeros| has_digit(x, 31 - zeros))
-        .unwrap_or(32)
+    (0..32).find(|zeros| has_digit(x, 31 - zeros)).unwrap_or(32)
 }
 
 // The position of the lowest one bit, or 32.
 fn trailing_zeros(x: u32) -> u32 {
-    (0..32)
-        .find(|zeros| has_digit(x, *zeros))
-        .unwrap_or(32)
+    (0..32).find(|zeros| has_digit(x, *zeros)).unwrap_or(32)
 }
