@@ -1,3 +1,3 @@
--- Decimals as io's digits, and texts at the front of a buffer.
+-- Decimals as std's, and texts at the front of a buffer.
 pub mod Decimals
 pub mod Fronts
