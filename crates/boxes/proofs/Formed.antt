@@ -13,6 +13,11 @@ or_false : (a : Bool) → (a || false) ≡ a
 or_false true = refl
 or_false false = refl
 
+-- No other number of bytes obeys them.
+pub formed_not : (edition k n : ℕ) (b : List ℕ) → (length b ≡ 10 → ⊥) → well_formed edition k n b ≡ false
+unfolding well_formed
+formed_not edition k n b e = rw (ne_eqb _ _ e)
+
 module _ (edition k n : ℕ) (b : List ℕ) (ten : length b ≡ 10) where
   pub formed_assignment : at b 0 ≡ 1 → assignment_rule edition k n b ≡ well_formed edition k n b
   unfolding well_formed decision_rule halt_rule choice_rule
@@ -30,3 +35,5 @@ module _ (edition k n : ℕ) (b : List ℕ) (ten : length b ≡ 10) where
   pub formed_choice : (at b 0 ≡ 1 → ⊥) → (at b 0 ≡ 2 → ⊥) → (at b 0 ≡ 3 → ⊥) → (has_kind edition (at b 0) && choice_rule k n b) ≡ well_formed edition k n b
   unfolding well_formed assignment_rule decision_rule halt_rule
   formed_choice one two three = rw (ten, ne_eqb _ _ one, ne_eqb _ _ two, ne_eqb _ _ three)
+
+pub ruleset formed = (formed_not, formed_assignment, formed_decision, formed_halt, formed_choice)

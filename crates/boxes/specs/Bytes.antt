@@ -1,5 +1,6 @@
 -- What the rules of the chart file say of lists of bytes.
-use Rattle.std.specs.Prelude.{ℕ, ◌*◌, List, [], ◌∷◌, Bool, true, ◌&&◌, eqb, get_or, take, drop}
+use Rattle.std.specs.Prelude.{ℕ, ◌*◌, List, Bool, eqb, get_or, take, drop}
+use Rattle.std.specs.List.{list_all}
 
 -- Byte i, and 0 past the end.
 abbrev pub at : List ℕ → ℕ → ℕ
@@ -11,8 +12,7 @@ part bytes i size = take size (drop i bytes)
 
 -- Every byte is 0.
 unfoldable pub all_zero : List ℕ → Bool
-all_zero [] = true
-all_zero (b ∷ bytes) = eqb b 0 && all_zero bytes
+all_zero bytes = list_all (λ b. eqb b 0) bytes
 
 -- Box p of a table of boxes, ten bytes each.
 abbrev pub box_of : List ℕ → ℕ → List ℕ
