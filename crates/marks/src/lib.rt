@@ -6,7 +6,7 @@
 ghost use Rattle.std.specs.Prelude.{◌≡◌};
 ghost use Rattle.marks.specs.Marks.{mode_of, mode_in, by_mode, masks_of, set_by, decision_notice, counter_mark, halt_notice, named_by, hides};
 
-#[derive(Clone, Copy)]
+#[derive(Clone, Copy, Debug, PartialEq, Eq)]
 pub enum Mode {
     Bare,
     Surveillance,
@@ -14,14 +14,16 @@ pub enum Mode {
 }
 
 // The mode of a number.
-#[tactic(auto, unfolding(crate::specs::Marks::mode_of))]
-pub fn mode_of(number: u8) -> Mode
-    ensures { mode_in result ≡ mode_of number }
-{
-    match number {
-        0 => Mode::Bare,
-        1 => Mode::Surveillance,
-        _ => Mode::HighWater,
+impl From<u8> for Mode {
+    ghost from_gives = { λ number mode. mode_in mode ≡ mode_of number };
+
+    #[tactic(auto, unfolding(crate::specs::Marks::mode_of))]
+    fn from(number: u8) -> Mode {
+        match number {
+            0 => Mode::Bare,
+            1 => Mode::Surveillance,
+            _ => Mode::HighWater,
+        }
     }
 }
 
@@ -94,9 +96,5 @@ pub fn named_by(mode: Mode, marks: u16) -> u16
 pub fn hides(mode: Mode) -> bool
     ensures { result ≡ hides (mode_in mode) }
 {
-    match mode {
-        Mode::Bare => false,
-        Mode::Surveillance => false,
-        Mode::HighWater => true,
-    }
+    matches!(mode, Mode::HighWater)
 }

@@ -1,24 +1,19 @@
-// Operations 2 to 8, and the three comparisons. `machine::operate` has the others, over the kit's
-// one bits, leading and trailing zeros.
+// Operations 2 to 6, and the three comparisons. `machine::operate` has the others, over std's
+// lesser and greater, one bits, leading and trailing zeros.
 #![tactic(auto)]
 
-ghost use Rattle.std.specs.Prelude.{◌≡◌, ◌*◌, ◌%◌, ◌^◌, min, max, [], ◌∷◌};
+ghost use Rattle.std.specs.Prelude.{◌≡◌, ◌*◌, ◌%◌, ◌^◌, [], ◌∷◌};
 ghost use Rattle.operations.specs.Operation.{sum, difference, quotient, remainder, compares};
 
-// The sum modulo 4,294,967,296; in edition 2 the greatest number where the true sum is larger,
-// which is where it has wrapped below an operand.
+// Kept: editions, operations and comparisons are bytes, since each function takes any byte of a
+// table (`read_by` and `compares` say what one above the last means).
+
+// The sum modulo 4,294,967,296; in edition 2 the greatest number where the true sum is larger.
 #[tactic(auto, unfolding(crate::specs::Operation::sum))]
 pub fn sum(edition: u8, a: u32, b: u32) -> u32
     ensures { result ≡ sum edition a b }
 {
-    let wrapped = std::num::wrapping_add_u32(a, b);
-    if edition != 2 {
-        return wrapped;
-    }
-    if wrapped < a {
-        return 4294967295;
-    }
-    wrapped
+    if edition == 2 { a.saturating_add(b) } else { a.wrapping_add(b) }
 }
 
 // The difference modulo 4,294,967,296; in edition 2 0 where right exceeds left.
@@ -26,21 +21,14 @@ pub fn sum(edition: u8, a: u32, b: u32) -> u32
 pub fn difference(edition: u8, a: u32, b: u32) -> u32
     ensures { result ≡ difference edition a b }
 {
-    let wrapped = std::num::wrapping_sub_u32(a, b);
-    if edition != 2 {
-        return wrapped;
-    }
-    if a < b {
-        return 0;
-    }
-    wrapped
+    if edition == 2 { a.saturating_sub(b) } else { a.wrapping_sub(b) }
 }
 
 // The product modulo 4,294,967,296, over u64.
 pub fn product(a: u32, b: u32) -> u32
     ensures { result ≡ a * b % 2 ^ 32 }
 {
-    let whole = (a as u64) * (b as u64);
+    let whole = u64::from(a) * u64::from(b);
     (whole % 4294967296) as u32
 }
 
@@ -49,7 +37,7 @@ pub fn product(a: u32, b: u32) -> u32
 pub fn quotient(a: u32, b: u32) -> u32
     ensures { result ≡ quotient a b }
 {
-    if b == 0 { 0 } else { a / b }
+    a.checked_div(b).unwrap_or(0)
 }
 
 // The remainder, left when right is 0.
@@ -57,19 +45,7 @@ pub fn quotient(a: u32, b: u32) -> u32
 pub fn remainder(a: u32, b: u32) -> u32
     ensures { result ≡ remainder a b }
 {
-    if b == 0 { a } else { a % b }
-}
-
-pub fn lesser(a: u32, b: u32) -> u32
-    ensures { result ≡ min a b }
-{
-    if a < b { a } else { b }
-}
-
-pub fn greater(a: u32, b: u32) -> u32
-    ensures { result ≡ max a b }
-{
-    if a < b { b } else { a }
+    a.checked_rem(b).unwrap_or(a)
 }
 
 // Whether a comparison holds of two values.
