@@ -2,9 +2,9 @@
 #![tactic(auto)]
 
 ghost use Rattle.std.specs.Prelude.{◌*◌, min, ◌≡◌};
-ghost use Rattle.decode.specs.Decode.{little_endian, box_from};
+ghost use Rattle.decode.specs.Decode.{box_from};
 
-#[derive(Drop)]
+#[derive(Clone, Copy, Debug, PartialEq, Eq)]
 pub enum FlowBox {
     Assign {
         target: u8,
@@ -34,19 +34,12 @@ pub enum FlowBox {
     },
 }
 
-// Four bytes, low byte first.
-fn little_endian(a: u8, b: u8, c: u8, d: u8) -> u32
-    ensures { result ≡ little_endian a b c d }
-{
-    (a as u32) + 256 * (b as u32) + 65536 * (c as u32) + 16777216 * (d as u32)
-}
-
 // Half of where box p begins. A run takes it along beside p: a byte is read at twice it in one
 // instruction, where ten times p takes one more, and every box waits for it.
 pub fn half_of(p: u8) -> usize
     ensures { result ≡ 5 * p }
 {
-    5 * (p as usize)
+    5 * usize::from(p)
 }
 
 // The same of the 204 places, by which a run begins: if it began by `half_of`, as it goes on, the
@@ -54,14 +47,12 @@ pub fn half_of(p: u8) -> usize
 pub fn first_half(p: u8) -> usize
     ensures { result ≡ 5 * min p 204 }
 {
-    if 204 <= p {
-        return 1020;
-    }
-    half_of(p)
+    half_of(p.min(204))
 }
 
 // The box that starts at twice `half`; a halt where the table has no ten bytes there. A kind that
 // no box has reads as a halt.
+#[tactic(auto, using(crate::proofs::Decoded::decoded))]
 pub fn box_at(table: &[u8; 2040], half: usize) -> FlowBox
     ensures { result ≡ box_from table.now (2 * half) }
 {
@@ -69,31 +60,25 @@ pub fn box_at(table: &[u8; 2040], half: usize) -> FlowBox
         return FlowBox::Halt;
     }
     let i = 2 * half;
-    let kind = table[i];
     // The number of the next box is read before anything is asked, since the next box waits for it.
     let next = table[i + 5];
-    if kind == 1 {
-        let constant = little_endian(table[i + 6], table[i + 7], table[i + 8], table[i + 9]);
-        return FlowBox::Assign {
+    match table[i] {
+        1 => FlowBox::Assign {
             target: table[i + 1],
             op: table[i + 2],
             left: table[i + 3],
             right: table[i + 4],
             next,
-            constant: constant,
-        };
-    }
-    if kind == 2 {
-        return FlowBox::Decide {
+            constant: u32::from_le_bytes([table[i + 6], table[i + 7], table[i + 8], table[i + 9]]),
+        },
+        2 => FlowBox::Decide {
             comparison: table[i + 2],
             left: table[i + 3],
             right: table[i + 4],
             next,
             other: table[i + 6],
-        };
-    }
-    if kind == 4 {
-        return FlowBox::Choose {
+        },
+        4 => FlowBox::Choose {
             target: table[i + 1],
             comparison: table[i + 2],
             left: table[i + 3],
@@ -101,7 +86,7 @@ pub fn box_at(table: &[u8; 2040], half: usize) -> FlowBox
             next,
             one: table[i + 6],
             other: table[i + 7],
-        };
+        },
+        _ => FlowBox::Halt,
     }
-    FlowBox::Halt
 }

@@ -13,7 +13,7 @@ use marks::{Masks, Mode};
 
 // It stores a value and a mark, it goes to a box with a counter mark, or it ends the run with a
 // value or with a notice that names these inputs.
-#[derive(Drop)]
+#[derive(Clone, Copy, Debug, PartialEq, Eq)]
 pub enum Act {
     Store {
         target: u8,
@@ -31,119 +31,120 @@ pub enum Act {
 
 // A value and a mark: a variable's, or what an operation gives and the union of the marks that it
 // reads.
-#[derive(Drop)]
+#[derive(Clone, Copy)]
 struct Marked {
     value: u32,
     mark: u16,
 }
 
+impl Marked {
+    fn new(value: u32, mark: u16) -> Marked
+        ensures { result ≡ record { value = value; mark = mark } }
+    {
+        Marked { value, mark }
+    }
+}
+
 // What an operation gives of its constant and its left and right operands, and the union of the
 // marks that it reads; what it does not read does not matter.
 fn operate(edition: u8, op: u8, constant: u32, left: Marked, right: Marked) -> Marked
-    ensures { (result.value ≡ value_of edition op constant (read_by edition op left.value right.value))
-        × (result.mark ≡ union (read_by edition op left.mark right.mark)) }
+    ensures value { result.value ≡ value_of edition op constant (read_by edition op left.value right.value) }
+    ensures mark { result.mark ≡ union (read_by edition op left.mark right.mark) }
 {
     let a = left.value;
     let b = right.value;
     let one = left.mark;
     let both = left.mark | right.mark;
     match op {
-        0 => with_mark(constant, 0),
+        0 => Marked::new(constant, 0),
         1 => left,
-        2 => with_mark(operations::sum(edition, a, b), both),
-        3 => with_mark(operations::difference(edition, a, b), both),
-        4 => with_mark(operations::product(a, b), both),
-        5 => with_mark(operations::quotient(a, b), both),
-        6 => with_mark(operations::remainder(a, b), both),
-        7 => with_mark(operations::lesser(a, b), both),
-        8 => with_mark(operations::greater(a, b), both),
-        9 => with_mark(u32::count_ones(a), one),
-        10 => with_mark(u32::leading_zeros(a), one),
+        2 => Marked::new(operations::sum(edition, a, b), both),
+        3 => Marked::new(operations::difference(edition, a, b), both),
+        4 => Marked::new(operations::product(a, b), both),
+        5 => Marked::new(operations::quotient(a, b), both),
+        6 => Marked::new(operations::remainder(a, b), both),
+        7 => Marked::new(a.min(b), both),
+        8 => Marked::new(a.max(b), both),
+        9 => Marked::new(a.count_ones(), one),
+        10 => Marked::new(a.leading_zeros(), one),
         _ => {
-            let zeros = u32::trailing_zeros(a);
+            let zeros = a.trailing_zeros();
             if boxes::reads_right(edition, op) {
-                return with_mark(operations::lesser(zeros, b), both);
+                return Marked::new(zeros.min(b), both);
             }
-            with_mark(zeros, one)
+            Marked::new(zeros, one)
         }
     }
 }
 
-// A value with a mark.
-fn with_mark(value: u32, mark: u16) -> Marked
-    ensures { (result.value ≡ value) × (result.mark ≡ mark) }
-{
-    Marked { value, mark }
+// The 32 variables and their marks, by number.
+#[derive(Clone, Copy)]
+pub struct Variables<'a> {
+    pub values: &'a [u32; 32],
+    pub marks: &'a [u16; 32],
 }
 
-// The value and the mark of a variable, by its number.
-fn variable<'a>(vars: &'a [u32; 32], marks: &'a [u16; 32], v: u8) -> Marked
-    ensures { (result.value ≡ entry vars.now v) × (result.mark ≡ entry marks.now v) }
-{
-    let i = (v % 32) as usize;
-    with_mark(vars[i], marks[i])
-}
-
-// What a choice gives: the value of one variable or of the other, by the comparison, and the union
-// of all four marks, whichever is copied.
-fn choose<'a>(
-    vars: &'a [u32; 32],
-    marks: &'a [u16; 32],
-    comparison: u8,
-    left: u8,
-    right: u8,
-    one: u8,
-    other: u8,
-) -> Marked
-    ensures { (result.value ≡ chosen comparison (entries vars.now (left ∷ right ∷ one ∷ other ∷ [])))
-        × (result.mark ≡ union (entries marks.now (left ∷ right ∷ one ∷ other ∷ []))) }
-{
-    let left = variable(vars, marks, left);
-    let right = variable(vars, marks, right);
-    let i = (one % 32) as usize;
-    let j = (other % 32) as usize;
-    let read = left.mark | (right.mark | (marks[i] | marks[j]));
-    // Of the two values only the one that is copied is loaded.
-    if operations::compare(comparison, left.value, right.value) {
-        return with_mark(vars[i], read);
+impl Variables<'_> {
+    fn value(self, v: u8) -> u32
+        ensures { result ≡ entry self.entry.values.now v }
+    {
+        self.values[usize::from(v % 32)]
     }
-    with_mark(vars[j], read)
-}
 
-// What a box that assigns does, of what it gives: it stores the value, and sets its target's mark
-// by the masks. It is given no mode.
-fn store<'a>(
-    masks: Masks,
-    vars: &'a [u32; 32],
-    marks: &'a [u16; 32],
-    target: u8,
-    given: Marked,
-    next: u8,
-) -> Act
-    ensures { result ≡ Act.Store target given.value (set_by masks (entry marks.now target) given.mark) next }
-{
-    let before = variable(vars, marks, target);
-    let mark = marks::set_mark(masks, before.mark, given.mark);
-    Act::Store {
-        target,
-        value: given.value,
-        mark,
-        next,
+    fn mark(self, v: u8) -> u16
+        ensures { result ≡ entry self.entry.marks.now v }
+    {
+        self.marks[usize::from(v % 32)]
+    }
+
+    fn variable(self, v: u8) -> Marked
+        ensures value { result.value ≡ entry self.entry.values.now v }
+        ensures mark { result.mark ≡ entry self.entry.marks.now v }
+    {
+        Marked::new(self.value(v), self.mark(v))
+    }
+
+    // What a choice gives: the value of one variable or of the other, by the comparison, and the
+    // union of all four marks, whichever is copied.
+    fn choose(self, comparison: u8, left: u8, right: u8, one: u8, other: u8) -> Marked
+        ensures value { result.value ≡ chosen comparison (entries self.entry.values.now (left ∷ right ∷ one ∷ other ∷ [])) }
+        ensures mark { result.mark ≡ union (entries self.entry.marks.now (left ∷ right ∷ one ∷ other ∷ [])) }
+    {
+        let left = self.variable(left);
+        let right = self.variable(right);
+        let read = left.mark | (right.mark | (self.mark(one) | self.mark(other)));
+        // Of the two values only the one that is copied is loaded.
+        if operations::compare(comparison, left.value, right.value) {
+            return Marked::new(self.value(one), read);
+        }
+        Marked::new(self.value(other), read)
+    }
+
+    // What a box that assigns does, of what it gives: it stores the value, and sets its target's
+    // mark by the masks. It is given no mode.
+    fn store(self, masks: Masks, target: u8, given: Marked, next: u8) -> Act
+        ensures { result ≡ Act.Store target given.value (set_by masks (entry self.entry.marks.now target) given.mark) next }
+    {
+        Act::Store {
+            target,
+            value: given.value,
+            mark: marks::set_mark(masks, self.mark(target), given.mark),
+            next,
+        }
     }
 }
 
 // What the box does; an assignment sets its target's mark by the masks. By those of the mode this
 // is the box's act by the rules (`act`).
-pub fn run_box<'a>(
+pub fn run_box(
     edition: u8,
     mode: Mode,
     masks: Masks,
     b: FlowBox,
-    vars: &'a [u32; 32],
-    marks: &'a [u16; 32],
+    variables: Variables,
     counter: u16,
 ) -> Act
-    ensures { result ≡ act_by (set_by masks) (mode_in mode) (meaning edition b) vars.now marks.now counter }
+    ensures { result ≡ act_by (set_by masks) (mode_in mode) (meaning edition b) variables.entry.values.now variables.entry.marks.now counter }
 {
     match b {
         FlowBox::Assign {
@@ -154,10 +155,10 @@ pub fn run_box<'a>(
             next,
             constant,
         } => {
-            let left = variable(vars, marks, left);
-            let right = variable(vars, marks, right);
+            let left = variables.variable(left);
+            let right = variables.variable(right);
             let given = operate(edition, op, constant, left, right);
-            store(masks, vars, marks, target, given, next)
+            variables.store(masks, target, given, next)
         }
         FlowBox::Decide {
             comparison,
@@ -166,8 +167,8 @@ pub fn run_box<'a>(
             next,
             other,
         } => {
-            let left = variable(vars, marks, left);
-            let right = variable(vars, marks, right);
+            let left = variables.variable(left);
+            let right = variables.variable(right);
             let read = left.mark | right.mark;
             let stops = marks::decision_notice(mode, read);
             if stops != 0 {
@@ -189,7 +190,7 @@ pub fn run_box<'a>(
             }
         }
         FlowBox::Halt => {
-            let output = variable(vars, marks, 31);
+            let output = variables.variable(31);
             let ends = marks::halt_notice(mode, counter, output.mark);
             if ends != 0 {
                 return Act::Notice(marks::named_by(mode, ends));
@@ -205,8 +206,8 @@ pub fn run_box<'a>(
             one,
             other,
         } => {
-            let given = choose(vars, marks, comparison, left, right, one, other);
-            store(masks, vars, marks, target, given, next)
+            let given = variables.choose(comparison, left, right, one, other);
+            variables.store(masks, target, given, next)
         }
     }
 }
