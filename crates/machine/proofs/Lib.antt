@@ -1,4 +1,3 @@
--- What an operation gives and reads, the act of a box, case by case, and laws of a run.
-pub mod Operates
+-- The act of a box by the masks of a mode, and laws of a run.
 pub mod Acts
 pub mod Runs

@@ -47,6 +47,7 @@ impl Marked {
 
 // What an operation gives of its constant and its left and right operands, and the union of the
 // marks that it reads; what it does not read does not matter.
+#[tactic(auto, using(crate::proofs::Acts::reads), unfolding(operations::specs::Operation::read_by, operations::specs::Operation::value_of, operations::specs::Operation::value_of_left, operations::specs::Operation::value_of_both, marks::specs::Marks::union))]
 fn operate(edition: u8, op: u8, constant: u32, left: Marked, right: Marked) -> Marked
     ensures value { result.value ≡ value_of edition op constant (read_by edition op left.value right.value) }
     ensures mark { result.mark ≡ union (read_by edition op left.mark right.mark) }
@@ -106,6 +107,7 @@ impl Variables<'_> {
 
     // What a choice gives: the value of one variable or of the other, by the comparison, and the
     // union of all four marks, whichever is copied.
+    #[tactic(auto, using(crate::proofs::Acts::reads), unfolding(operations::specs::Operation::chosen, operations::specs::Operation::compares, marks::specs::Marks::union))]
     fn choose(self, comparison: u8, left: u8, right: u8, one: u8, other: u8) -> Marked
         ensures value { result.value ≡ chosen comparison (entries self.entry.values.now (left ∷ right ∷ one ∷ other ∷ [])) }
         ensures mark { result.mark ≡ union (entries self.entry.marks.now (left ∷ right ∷ one ∷ other ∷ [])) }
@@ -136,6 +138,7 @@ impl Variables<'_> {
 
 // What the box does; an assignment sets its target's mark by the masks. By those of the mode this
 // is the box's act by the rules (`act`).
+#[tactic(auto, using(crate::proofs::Acts::reads), unfolding(decode::specs::Decode::meaning, crate::specs::Act::act_by, marks::specs::Marks::union))]
 pub fn run_box(
     edition: u8,
     mode: Mode,
