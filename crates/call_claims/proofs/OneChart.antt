@@ -1,6 +1,7 @@
 -- Runners that hold one chart have the same header and table: write back gives one file of both,
 -- and what each holds is what that file loads. Assumes nothing.
-use Rattle.std.specs.Prelude.{Ok, Err}
+use Rattle.std.specs.Prelude.{Result, Ok}
+use Rattle.block.specs.declared.Refusal.{Refusal}
 use Prim.Native.Nat.{ℕ, ◌≤◌}
 use mathlib.Core.Path.{◌≡◌, ap, sym, ◌∙◌}
 use mathlib.Core.List.{List, ◌++◌}
@@ -47,7 +48,7 @@ module _ {h : Header} {table : List ℕ} (f : From h table) where
 front_same : (f f' x x' : List ℕ) → length f ≡ length f' → f ++ x ≡ f' ++ x' → f ≡ f'
 front_same f f' x x' l e = sym (take-append_seam f x) ∙ rw (l, e) (take-append_seam f' x')
 
-accepted_once : {h h' : Header} → Ok h ≡ Ok h' → h ≡ h'
+accepted_once : {h h' : Header} → ◌≡◌ {A = Result Header Refusal} (Ok h) (Ok h') → h ≡ h'
 accepted_once e = cc
 
 from_one : {h h' : Header} {table table' : List ℕ} (f : From h table) (f' : From h' table') → f.file ≡ f'.file → (h ≡ h') × (table ≡ table')

@@ -1,15 +1,15 @@
--- No two answers of one enum tell the same: constructors are distinct and injective. Assumes
+-- No two answers of one type tell the same: constructors are distinct and injective. Assumes
 -- nothing.
 use Rattle.std.specs.Prelude.{Ok, Err}
 use Prim.Native.Nat.{ℕ}
-use mathlib.Core.Path.{◌≡◌, refl, ap, ◌∙◌}
+use mathlib.Core.Path.{◌≡◌, refl, ap, sym, ◌∙◌}
 use Rattle.block.specs.Refusing.{refusal}
 use Rattle.block.specs.declared.Refusal.{Refusal}
-use Rattle.runner.specs.declared.LoadTold.TheVariants as load
-use Rattle.runner.specs.declared.AdvanceTold.TheVariants as advance
-use Rattle.runner.specs.declared.AnswerTold.TheVariants as answer
-use Rattle.runner.specs.Outcomes.{turned_away}
-use Rattle.runner.specs.Replies.{load_reply, verdict_reply, advance_reply, answer_reply, written_reply}
+use Rattle.runner.specs.declared.Loaded.{Loaded}
+use Rattle.runner.specs.declared.Advanced.TheVariants.{Running, Ended}
+use Rattle.runner.specs.declared.Answered.TheVariants.{Value, Notice, Spent}
+use Rattle.runner.specs.Outcomes.{Reply, turned_away}
+use Rattle.runner.specs.Replies.{reply_by, progress_told, ending_told, load_reply, verdict_reply, advance_reply, answer_reply, written_reply}
 use Rattle.run_claims.proofs.Branches.{clash}
 use Rattle.call_claims.specs.Distinct.{Injective, RepliesDistinct}
 
@@ -19,57 +19,56 @@ refusal_once x y e =
     let d : x.detail ≡ y.detail = cc in
     ap (λ (k : ℕ). refusal k x.detail) n ∙ ap (refusal y.number) d
 
+-- Answers tell apart where what they tell of a call that is done does, and tells no refusal.
+told_once : {A : Type 0} (tells : A → Reply) → Injective tells → ((a : A) (x : Refusal) → tells a ≡ turned_away x → ⊥) → Injective (reply_by tells)
+told_once tells once apart (Ok a) (Ok b) e = ap Ok (once a b e)
+told_once tells once apart (Ok a) (Err y) e = absurd (apart a y e)
+told_once tells once apart (Err x) (Ok b) e = absurd (apart b x (sym e))
+told_once tells once apart (Err x) (Err y) e = ap Err (refusal_once x y e)
+
+loaded_once : (a b : Loaded) → load_reply (Ok a) ≡ load_reply (Ok b) → a ≡ b
+unfolding load_reply
+loaded_once a b e =
+    let i : a.inputs ≡ b.inputs = cc in
+    let n : a.boxes ≡ b.boxes = cc in
+    ap (λ (k : ℕ). record { inputs = k; boxes = a.boxes }) i ∙ ap (λ (k : ℕ). record { inputs = b.inputs; boxes = k }) n
+
 load_once : Injective load_reply
 unfolding load_reply
-load_once (load.Chart k n) (load.Chart k' n') e = cc
-load_once (load.Chart k n) (load.Refused y) e = clash cc
-load_once (load.Refused x) (load.Chart k n) e = clash cc
-load_once (load.Refused x) (load.Refused y) e = ap load.Refused (refusal_once x y e)
+load_once = told_once _ loaded_once (λ a x e. clash cc)
 
 verdict_once : Injective verdict_reply
 unfolding verdict_reply
-verdict_once (Ok _) (Ok _) e = refl
-verdict_once (Ok _) (Err y) e = clash cc
-verdict_once (Err x) (Ok _) e = clash cc
-verdict_once (Err x) (Err y) e = ap Err (refusal_once x y e)
+verdict_once = told_once _ (λ a b e. refl) (λ a x e. clash cc)
+
+progress_once : Injective progress_told
+progress_once (Running s) (Running t) e = cc
+progress_once (Running s) (Ended t) e = clash cc
+progress_once (Ended s) (Running t) e = clash cc
+progress_once (Ended s) (Ended t) e = cc
 
 advance_once : Injective advance_reply
 unfolding advance_reply
-advance_once (advance.Running s) (advance.Running t) e = cc
-advance_once (advance.Running s) (advance.Ended t) e = clash cc
-advance_once (advance.Running s) (advance.Refused y) e = clash cc
-advance_once (advance.Ended s) (advance.Running t) e = clash cc
-advance_once (advance.Ended s) (advance.Ended t) e = cc
-advance_once (advance.Ended s) (advance.Refused y) e = clash cc
-advance_once (advance.Refused x) (advance.Running t) e = clash cc
-advance_once (advance.Refused x) (advance.Ended t) e = clash cc
-advance_once (advance.Refused x) (advance.Refused y) e = ap advance.Refused (refusal_once x y e)
+advance_once = told_once _ progress_once (elim [ Running s ↦ λ x e. clash cc | Ended s ↦ λ x e. clash cc ])
+
+ending_once : Injective ending_told
+ending_once (Value v s) (Value w t) e = cc
+ending_once (Value v s) (Notice m t) e = clash cc
+ending_once (Value v s) (Spent t) e = clash cc
+ending_once (Notice n s) (Value w t) e = clash cc
+ending_once (Notice n s) (Notice m t) e = cc
+ending_once (Notice n s) (Spent t) e = clash cc
+ending_once (Spent s) (Value w t) e = clash cc
+ending_once (Spent s) (Notice m t) e = clash cc
+ending_once (Spent s) (Spent t) e = cc
 
 answer_once : Injective answer_reply
 unfolding answer_reply
-answer_once (answer.Value v s) (answer.Value w t) e = cc
-answer_once (answer.Value v s) (answer.Notice m t) e = clash cc
-answer_once (answer.Value v s) (answer.Spent t) e = clash cc
-answer_once (answer.Value v s) (answer.Refused y) e = clash cc
-answer_once (answer.Notice n s) (answer.Value w t) e = clash cc
-answer_once (answer.Notice n s) (answer.Notice m t) e = cc
-answer_once (answer.Notice n s) (answer.Spent t) e = clash cc
-answer_once (answer.Notice n s) (answer.Refused y) e = clash cc
-answer_once (answer.Spent s) (answer.Value w t) e = clash cc
-answer_once (answer.Spent s) (answer.Notice m t) e = clash cc
-answer_once (answer.Spent s) (answer.Spent t) e = cc
-answer_once (answer.Spent s) (answer.Refused y) e = clash cc
-answer_once (answer.Refused x) (answer.Value w t) e = clash cc
-answer_once (answer.Refused x) (answer.Notice m t) e = clash cc
-answer_once (answer.Refused x) (answer.Spent t) e = clash cc
-answer_once (answer.Refused x) (answer.Refused y) e = ap answer.Refused (refusal_once x y e)
+answer_once = told_once _ ending_once (elim [ Value v s ↦ λ x e. clash cc | Notice n s ↦ λ x e. clash cc | Spent s ↦ λ x e. clash cc ])
 
 written_once : Injective written_reply
 unfolding written_reply
-written_once (Ok n) (Ok m) e = cc
-written_once (Ok n) (Err y) e = clash cc
-written_once (Err x) (Ok m) e = clash cc
-written_once (Err x) (Err y) e = ap Err (refusal_once x y e)
+written_once = told_once _ (λ n m e. cc) (λ n x e. clash cc)
 
 pub replies_distinct : RepliesDistinct
 replies_distinct = (load_once, verdict_once, advance_once, answer_once, written_once)

@@ -175,7 +175,7 @@ converts_back f g c =
     let there = makes (other_file f h) (in_other h) (other_accepted f h m.checks m.all) (back f h m.checks m.all) in
     rw m.file (rw (again f h m.checks m.all) at there)
 
-refused_once : {x y : Refusal} → Err x ≡ Err y → x ≡ y
+refused_once : {A : Type 0} {x y : Refusal} → ◌≡◌ {A = Result A Refusal} (Err x) (Err y) → x ≡ y
 refused_once e = cc
 
 -- What is answered of a file that load accepts.
@@ -218,11 +218,11 @@ module _ (f : List ℕ) (e : check_file f ≡ Ok (header_of f)) where
       where
         on : Dec (length buffer < file_length h) → ⊥
         on (yes short) =
-            let twelve : Err (refusal 12 0) ≡ Err (refusal 14 p) = sym (answered (tells_room h (table_of f) (length buffer) l short)) ∙ told in
+            let twelve : ◌≡◌ {A = Result ℕ Refusal} (Err (refusal 12 0)) (Err (refusal 14 p)) = sym (answered (tells_room h (table_of f) (length buffer) l short)) ∙ told in
             let number = ap (λ (x : Refusal). x.number) (refused_once twelve) in
             omega arith
         on (no room) =
-            let length : Ok (file_length h) ≡ Err (refusal 14 p) =
+            let length : ◌≡◌ {A = Result ℕ Refusal} (Ok (file_length h)) (Err (refusal 14 p)) =
             sym (answered (tells_header h (table_of f) (length buffer) l (omega arith))) ∙ told in
             clash cc
 
