@@ -1,43 +1,16 @@
--- Laws of first_failing: how a loop that counts up looks for the number, what it says where no
--- number fails and where one does, and which number it is. search_start, search_more, search_stop,
--- search_end; all_hold, none_fails; first_is, first_says. Assumes nothing.
-use Prim.Native.Nat.{ℕ, zero, suc, ◌+◌, ◌-◌, ◌≤◌, ◌<◌}
+-- Laws of first_failing: what it says where no number fails and where one does, and which number it
+-- is; and what a search that found this or nothing found. all_hold, none_fails; first_is,
+-- first_says; found_is. Assumes nothing.
+use Prim.Native.Nat.{ℕ, zero, suc, ◌+◌, ◌≤◌, ◌<◌}
 use mathlib.Core.Path.{◌≡◌, refl, ap, sym, ◌∙◌}
 use mathlib.Core.Bool.{Bool, true, false, cond}
 use mathlib.Core.Logic.{⊎_elim}
-use native.Mathlib.Numerals.{add-one}
-use native.Mathlib.Nat.{sub-zero, eq-or-lt_of_le}
+use native.Mathlib.Nat.{eq-or-lt_of_le}
 use native.Mathlib.Omega.{arith}
 use lib.Dec.{ltb}
-use borrow.Author.Tests.{ltb-false}
-use Rattle.format.specs.Search.{first_from, first_failing}
-
-module _ (test : ℕ → Bool) (count : ℕ) where
-  -- What the search still has to look at, from i on.
-  abbrev pub from : ℕ → ℕ
-  from i = first_from test i (count - i)
-
-  pub search_start : from 0 ≡ first_failing test count
-  search_start = ap (first_from test 0) (sub-zero count)
-
-  search_here : (i : ℕ) → i < count → from i ≡ cond (test i) (from (i + 1)) i
-  unfolding first_from
-  search_here i h =
-      let e : count - i ≡ suc (count - (i + 1)) = omega (arith, add-one (count - (i + 1))) in
-      ap (first_from test i) e
-
-  pub search_more : (i : ℕ) → i < count → test i ≡ true → from i ≡ first_failing test count → from (i + 1) ≡ first_failing test count
-  search_more i h t e = sym (rw t at (search_here i h)) ∙ e
-
-  pub search_stop : (i : ℕ) → i < count → test i ≡ false → from i ≡ first_failing test count → i ≡ first_failing test count
-  search_stop i h t e = sym (rw t at (search_here i h)) ∙ e
-
-  pub search_end : (i : ℕ) → i ≤ count → count ≤ i → from i ≡ first_failing test count → count ≡ first_failing test count
-  unfolding first_from
-  search_end i h l e =
-      let none : count - i ≡ 0 = omega arith in
-      let here : count ≡ i = omega arith in
-      here ∙ sym (ap (first_from test i) none) ∙ e
+use borrow.Author.Tests.{ltb-false, lt-ltb, le-ltb}
+use Rattle.std.specs.Prelude.{Option, None, Some}
+use Rattle.format.specs.Search.{first_from, first_failing, found_failing, IsFirstFailing}
 
 module _ (test : ℕ → Bool) where
   all_from : (left i : ℕ) → i + left ≤ first_from test i left → (j : ℕ) → i ≤ j → j < i + left → test j ≡ true
@@ -97,3 +70,15 @@ module _ (test : ℕ → Bool) where
   first_says count l =
       let s = says_from count 0 (omega arith) in
       (λ j m. s.0 j (omega arith) m, s.1)
+
+-- What a search finds by a test that gives at most this.
+pub found_is : (gives : ℕ → Bool → Type 0) (test : ℕ → Bool) (count : ℕ) (found : Option ℕ) → IsFirstFailing gives count found
+    → ((i : ℕ) (b : Bool) → gives i b → b ≡ test i)
+    → found ≡ found_failing test count
+found_is gives test count None h is =
+    let none = none_fails test count (λ j l. sym (is j true (h.cases j l))) in
+    rw (none, le-ltb count count (omega arith)) refl
+found_is gives test count (Some i) h is =
+    let f = h.cases in
+    let first = first_is test count i f.0 (λ j l. sym (is j true (f.2 j l))) (sym (is i false f.1)) in
+    rw (first, lt-ltb i count f.0) refl
