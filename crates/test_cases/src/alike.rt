@@ -5,8 +5,8 @@ use crate::pair::Pair;
 use encoding::kinds;
 use runner::Runner;
 use test_samples::arguments;
-use test_samples::arguments::first_inputs;
 use test_samples::files::byte;
+use test_samples::random::Random;
 use test_text::text::part;
 
 #[derive(Clone, Copy)]
@@ -32,18 +32,11 @@ fn advances(two: Two, m: u32) -> Two {
 }
 
 // A begin, an advance by some boxes, one by the limit, which ends a run, and the answer.
-fn run(two: Two, state: &mut u64, k: u32) -> Two {
-    let a = arguments::begin(state, k);
-    let mut drawn = [0u32; 20];
-    arguments::inputs(state, &mut drawn);
-    let inputs = first_inputs(&drawn, a.count);
+fn run(two: Two, random: &mut Random, k: u32) -> Two {
+    let a = arguments::begin(random, k);
     let limit = arguments::steps_within(a.limit);
-    let begun = both(
-        two,
-        begin(two.original, a, inputs),
-        begin(two.converted, a, inputs),
-    );
-    let some = advances(begun, arguments::amount(state, limit));
+    let begun = both(two, begin(two.original, &a), begin(two.converted, &a));
+    let some = advances(begun, arguments::amount(random, limit));
     let mut all = advances(some, limit);
     let first = encoding::of_answer(all.original.answer());
     let second = encoding::of_answer(all.converted.answer());
@@ -53,7 +46,7 @@ fn run(two: Two, state: &mut u64, k: u32) -> Two {
 }
 
 // Three runs of a file's chart and of its converted one, where the file converts.
-pub fn runs(pair: Pair, state: &mut u64, file: &[u8]) -> Pair {
+pub fn runs(pair: Pair, random: &mut Random, file: &[u8]) -> Pair {
     let mut other = [0u8; 2560];
     let told = encoding::of_written(convert::convert(file, &mut other));
     if told.kind != kinds::WRITTEN {
@@ -70,8 +63,8 @@ pub fn runs(pair: Pair, state: &mut u64, file: &[u8]) -> Pair {
         load(fresh.original, file),
         load(fresh.converted, part(&other, 0, file.len())),
     );
-    let one = run(loaded, state, k);
-    let two = run(one, state, k);
-    let three = run(two, state, k);
+    let one = run(loaded, random, k);
+    let two = run(one, random, k);
+    let three = run(two, random, k);
     three.pair
 }

@@ -5,8 +5,9 @@ use crate::{compare, made};
 use encoding::{Encoded, kinds};
 use runner::Runner;
 use test_samples::arguments;
-use test_samples::arguments::{Arguments, first_inputs};
+use test_samples::arguments::Arguments;
 use test_samples::files::byte;
+use test_samples::random::Random;
 
 // The chart as it was and as it is rewritten, and whether it is the same.
 #[derive(Clone, Copy)]
@@ -17,8 +18,8 @@ struct Charts {
 }
 
 // How a run ends that is advanced by its limit at once, or what refuses its begin.
-fn ending(runner: Runner, a: Arguments, inputs: &[u32]) -> Encoded {
-    let begun = made::begin(runner, a, inputs);
+fn ending(runner: Runner, a: &Arguments) -> Encoded {
+    let begun = made::begin(runner, a);
     let verdict = begun.told;
     if verdict.kind == kinds::REFUSED {
         return verdict;
@@ -28,20 +29,17 @@ fn ending(runner: Runner, a: Arguments, inputs: &[u32]) -> Encoded {
 }
 
 // A run of each in a mode.
-fn run(pair: Pair, state: &mut u64, charts: Charts, k: u32, mode: u32) -> Pair {
-    let mut a = arguments::begin(state, k);
-    let mut drawn = [0u32; 20];
-    arguments::inputs(state, &mut drawn);
+fn run(pair: Pair, random: &mut Random, charts: Charts, k: u32, mode: u32) -> Pair {
+    let mut a = arguments::begin(random, k);
     a.mode = mode;
-    let inputs = first_inputs(&drawn, a.count);
-    let old = ending(charts.old, a, inputs);
-    let new = ending(charts.new, a, inputs);
+    let old = ending(charts.old, &a);
+    let new = ending(charts.new, &a);
     pair.beside(old, new, mode == 0, charts.same)
 }
 
 // Three bare runs of a file's chart and of its rewritten one, and two under surveillance, where the
 // file loads and is of edition 2.
-pub fn runs(pair: Pair, state: &mut u64, file: &[u8]) -> Pair {
+pub fn runs(pair: Pair, random: &mut Random, file: &[u8]) -> Pair {
     let loaded = made::load(Runner::new(), file);
     let old = loaded.runner;
     let rewritten = made::rewrite(old);
@@ -53,9 +51,9 @@ pub fn runs(pair: Pair, state: &mut u64, file: &[u8]) -> Pair {
     let same = compare::one_chart(old, new);
     let charts = Charts { old, new, same };
     let k = byte(file, 5);
-    let one = run(pair, state, charts, k, 0);
-    let two = run(one, state, charts, k, 0);
-    let three = run(two, state, charts, k, 0);
-    let four = run(three, state, charts, k, 1);
-    run(four, state, charts, k, 1)
+    let one = run(pair, random, charts, k, 0);
+    let two = run(one, random, charts, k, 0);
+    let three = run(two, random, charts, k, 0);
+    let four = run(three, random, charts, k, 1);
+    run(four, random, charts, k, 1)
 }

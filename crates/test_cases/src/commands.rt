@@ -4,7 +4,6 @@ use crate::pair;
 use crate::pair::Pair;
 use encoding::kinds;
 use std::{array, io};
-use test_samples::arguments::first_inputs;
 use test_samples::files;
 use test_samples::files::{File, front, low};
 use test_text::letters::Call;
@@ -17,7 +16,7 @@ fn begin(pair: Pair, line: &[u8]) -> Pair {
     let count = number(line, 4) as usize;
     pair.begin(
         number(line, 1),
-        first_inputs(&inputs, count),
+        front(&inputs, count),
         number(line, 2),
         number(line, 3),
     )

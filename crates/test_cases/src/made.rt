@@ -19,8 +19,8 @@ pub fn load(runner: Runner, file: &[u8]) -> Made {
     after(loading.runner, encoding::of_load(told))
 }
 
-pub fn begin(runner: Runner, a: Arguments, inputs: &[u32]) -> Made {
-    let begun = runner.begin(a.mode, inputs, a.allowed, a.limit);
+pub fn begin(runner: Runner, a: &Arguments) -> Made {
+    let begun = runner.begin(a.mode, a.inputs.as_slice(), a.allowed, a.limit);
     let told = begun.told;
     after(begun.runner, encoding::of_verdict(told))
 }

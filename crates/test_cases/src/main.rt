@@ -17,8 +17,8 @@ mod report;
 use pair::Pair;
 use std::io;
 use test_samples::damage;
-use test_samples::files::{File, front};
-use test_samples::random::{below, one_in};
+use test_samples::files::File;
+use test_samples::random::Random;
 use test_text::input;
 use test_text::print::say;
 use test_text::text::part;
@@ -31,30 +31,26 @@ const CASES: u32 = 100000;
 
 // A chart's file and a list of calls with it; at times the chart is run beside its converted one or
 // its rewritten one. The pair is often the one that the case before left.
-fn random_case(pair: Pair, state: &mut u64, file: &mut File) -> Pair {
+fn random_case(pair: Pair, random: &mut Random) -> Pair {
     if !pair.same {
         return pair;
     }
-    let drawn = damage::draw(state, file);
-    let now = if one_in(state, 8) { pair.renew() } else { pair };
-    let after = random_calls::list(
-        now.of_file(drawn.exchanged),
-        state,
-        front(file, drawn.length),
-    );
-    let more = below(state, 4);
-    match more {
-        0 => alike::runs(after, state, front(file, drawn.length)),
-        1 => beside::runs(after, state, front(file, drawn.length)),
+    let drawn = damage::draw(random);
+    let file = drawn.bytes.as_slice();
+    let now = if random.one_in(8) { pair.renew() } else { pair };
+    let after = random_calls::list(now.of_file(drawn.exchanged), random, file);
+    match random.below(4) {
+        0 => alike::runs(after, random, file),
+        1 => beside::runs(after, random, file),
         _ => after,
     }
 }
 
-fn random_cases(file: &mut File) -> Pair {
-    let mut state = SEED;
+fn random_cases() -> Pair {
+    let mut random = Random::new(SEED);
     let mut p = pair::new();
     for case in 1..CASES {
-        p = random_case(p.at_case(case), &mut state, file);
+        p = random_case(p.at_case(case), &mut random);
     }
     p
 }
@@ -75,7 +71,7 @@ fn main(rt: HostRuntime) -> io::Result<()> {
     if !fixed_cases(&rt, &mut file)? {
         return Ok(());
     }
-    let p = random_cases(&mut file);
+    let p = random_cases();
     p.tell(&rt)?;
     if p.same {
         let counts = p.counts;
