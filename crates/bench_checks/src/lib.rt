@@ -3,6 +3,7 @@
 // compares their sums with those of plain Rust.
 #![tactic(auto)]
 
+use arrayvec::ArrayVec;
 use bench_rounds::{fold_told, holding};
 
 // Health checks: begin, advance to the end, answer. Input 0 is one more each round. Of more than 32
@@ -15,23 +16,19 @@ pub fn flow_checks(
     limit: u32,
     rounds: u32,
 ) -> u64 {
-    let count = inputs.len();
-    if 32 < count {
+    let mut numbers = ArrayVec::<u32, 32>::new();
+    if numbers.try_extend_from_slice(inputs).is_err() {
         return 0;
     }
-    let mut numbers = begin::first_vars(inputs);
     let mut runner = holding(file);
-    let mut sum: u64 = 0;
-    let mut left = rounds;
-    while 0 < left {
-        left -= 1;
-        numbers[0] = std::num::wrapping_add_u32(numbers[0], 1);
-        let all = &numbers[..];
-        let begun = runner.begin(mode, &all[..count], allowed, limit);
-        let started = begun.runner;
-        let advanced = started.advance(65535);
-        runner = advanced.runner;
-        sum = fold_told(sum, encoding::of_answer(runner.answer()));
+    let mut sum = 0;
+    for _ in 0..rounds {
+        if let Some(first) = numbers.first_mut() {
+            *first = first.wrapping_add(1);
+        }
+        let begun = runner.begin(mode, &numbers, allowed, limit);
+        runner = begun.runner.advance(65535).runner;
+        sum = fold_told(sum, runner.answer());
     }
     sum
 }
