@@ -15,11 +15,76 @@
 // A kind from 9 on is no call: it tells `NO_CALL`, and nothing is done.
 #![tactic(auto)]
 
-use encoding::{Encoded, kinds};
-use runner::Runner;
+use encoding::{Encoded, Numbered, kinds};
+use runner::{Called, Runner};
 
 // Told where a kind is that of no call. No reply has it: the kinds of `encoding` are below.
 const NO_CALL: u32 = 16;
+
+// A call, with the lent bytes that it names.
+#[derive(Clone, Copy)]
+enum Call<'a> {
+    Load(&'a [u8]),
+    Begin {
+        mode: u32,
+        inputs: &'a [u32],
+        allowed: u32,
+        limit: u32,
+    },
+    Advance(u32),
+    Answer,
+    Abandon,
+    WriteBack {
+        room: usize,
+    },
+    ShowBox {
+        file: &'a [u8],
+        number: u32,
+    },
+    Convert {
+        file: &'a [u8],
+        room: usize,
+    },
+    Rewrite,
+}
+
+// So many of the lent bytes, or as many as there are.
+fn part(files: &[u8], from: u32, length: u32) -> &[u8] {
+    let rest = files.get(from as usize..).unwrap_or_default();
+    &rest[..rest.len().min(length as usize)]
+}
+
+impl<'a> Call<'a> {
+    // The call that 24 numbers say, at most 17 of which are inputs, or none where they say none.
+    fn from_words(words: &'a [u32; 24], files: &'a [u8]) -> Option<Call<'a>> {
+        let [kind, first, second, third, count, ..] = *words;
+        match kind {
+            0 => Some(Call::Load(part(files, first, second))),
+            1 => Some(Call::Begin {
+                mode: first,
+                inputs: &words[5..5 + (count as usize).min(17)],
+                allowed: second,
+                limit: third,
+            }),
+            2 => Some(Call::Advance(first)),
+            3 => Some(Call::Answer),
+            4 => Some(Call::Abandon),
+            5 => Some(Call::WriteBack {
+                room: first as usize,
+            }),
+            6 => Some(Call::ShowBox {
+                file: part(files, first, second),
+                number: third,
+            }),
+            7 => Some(Call::Convert {
+                file: part(files, first, second),
+                room: third as usize,
+            }),
+            8 => Some(Call::Rewrite),
+            _ => None,
+        }
+    }
+}
 
 // After a call: the runner, what was told, and a sum over the bytes of a lent buffer or a returned
 // part.
@@ -30,135 +95,72 @@ struct Turn {
     sum: u32,
 }
 
-fn after(runner: Runner, told: Encoded, sum: u32) -> Turn {
-    Turn { runner, told, sum }
-}
-
-// The number at a place, 0 past the end.
-fn word(words: &[u32], i: usize) -> u32 {
-    if i < words.len() {
-        return words[i];
+impl<T: Numbered> From<Called<T>> for Turn {
+    fn from(called: Called<T>) -> Turn {
+        Turn::new(called.runner, called.told, 0)
     }
-    0
 }
 
-// So many of the lent bytes, or as many as there are.
-fn part(files: &[u8], from: u32, length: u32) -> &[u8] {
-    let start = widen::lesser(from as usize, files.len());
-    let end = start + widen::lesser(length as usize, files.len() - start);
-    &files[start..end]
+impl Turn {
+    fn new(runner: Runner, told: impl Into<Encoded>, sum: u32) -> Turn {
+        let told = told.into();
+        Turn { runner, told, sum }
+    }
+
+    // The four numbers that a call tells: the three of `encoding`, of the first its low 32 bits, and
+    // the sum.
+    fn numbers(self) -> [u32; 4] {
+        let Encoded {
+            kind,
+            first,
+            second,
+        } = self.told;
+        [kind, (first % (1 << 32)) as u32, second, self.sum]
+    }
 }
 
 fn sum_of(bytes: &[u8]) -> u32 {
-    let mut sum: u32 = 0;
-    let mut i: usize = 0;
-    while i < bytes.len() {
-        sum = std::num::wrapping_add_u32((sum << 5) ^ (sum >> 3), widen::to_u32(bytes[i]));
-        i += 1;
-    }
-    sum
+    bytes.iter().fold(0, |sum: u32, byte| {
+        ((sum << 5) ^ (sum >> 3)).wrapping_add(u32::from(*byte))
+    })
 }
 
-fn load(runner: Runner, file: &[u8]) -> Turn {
-    let loading = runner.load(file);
-    let next = loading.runner;
-    let told = loading.told;
-    after(next, encoding::of_load(told), 0)
+// As much of a buffer as a call lends.
+fn lent(buf: &mut [u8], room: usize) -> &mut [u8] {
+    let end = room.min(buf.len());
+    &mut buf[..end]
 }
 
-fn begin(runner: Runner, words: &[u32]) -> Turn {
-    let count = widen::lesser(word(words, 4) as usize, 17);
-    let mut inputs = [0u32; 17];
-    for j in 0..17 {
-        inputs[j] = word(words, 5 + j);
-    }
-    let all = &inputs[..];
-    let begun = runner.begin(
-        word(words, 1),
-        &all[..count],
-        word(words, 2),
-        word(words, 3),
-    );
-    let next = begun.runner;
-    let told = begun.told;
-    after(next, encoding::of_verdict(told), 0)
-}
-
-fn advance(runner: Runner, amount: u32) -> Turn {
-    let advanced = runner.advance(amount);
-    let next = advanced.runner;
-    let told = advanced.told;
-    after(next, encoding::of_advance(told), 0)
-}
-
-fn abandon(runner: Runner) -> Turn {
-    let dropped = runner.abandon();
-    let next = dropped.runner;
-    let told = dropped.told;
-    after(next, encoding::of_verdict(told), 0)
-}
-
-fn write(runner: Runner, room: u32, buf: &mut [u8]) -> Turn {
-    let end = widen::lesser(room as usize, buf.len());
-    let told = encoding::of_written(runner.write_back(&mut buf[..end]));
-    after(runner, told, sum_of(buf))
-}
-
-fn show(runner: Runner, file: &[u8], number: u32) -> Turn {
-    let shown = chart::show_box(file, number);
-    let told = encoding::make(kinds::SHOWN, shown.len() as u64, 0);
-    after(runner, told, sum_of(shown))
-}
-
-fn convert(runner: Runner, file: &[u8], room: u32, buf: &mut [u8]) -> Turn {
-    let end = widen::lesser(room as usize, buf.len());
-    let told = encoding::of_written(convert::convert(file, &mut buf[..end]));
-    after(runner, told, sum_of(buf))
-}
-
-fn rewrite(runner: Runner) -> Turn {
-    let rewritten = runner.rewrite();
-    let next = rewritten.runner;
-    let told = rewritten.told;
-    after(next, encoding::of_verdict(told), 0)
-}
-
-// One call.
-fn make(runner: Runner, files: &[u8], words: &[u32], buf: &mut [u8]) -> Turn {
-    let first = word(words, 1);
-    let third = word(words, 3);
-    let file = part(files, first, word(words, 2));
-    match word(words, 0) {
-        0 => load(runner, file),
-        1 => begin(runner, words),
-        2 => advance(runner, first),
-        3 => after(runner, encoding::of_answer(runner.answer()), 0),
-        4 => abandon(runner),
-        5 => write(runner, first, buf),
-        6 => show(runner, file, third),
-        7 => convert(runner, file, third, buf),
-        8 => rewrite(runner),
-        _ => after(runner, encoding::make(NO_CALL, 0, 0), 0),
-    }
-}
-
-fn store(told: &mut [u32], at: usize, number: u32) {
-    if at < told.len() {
-        told[at] = number;
-    }
-}
-
-// The four numbers of call i, where there is room for them.
-fn put(told: &mut [u32], i: usize, made: Encoded, sum: u32) {
-    if i < told.len() / 4 {
-        let to = 4 * i;
-        let second = to + 1;
-        let third = to + 2;
-        let fourth = to + 3;
-        store(told, to, made.kind);
-        store(told, second, (made.first % 4294967296) as u32);
-        store(told, third, made.second);
-        store(told, fourth, sum);
+// One call, or none.
+fn make(runner: Runner, call: Option<Call>, buf: &mut [u8]) -> Turn {
+    let Some(call) = call else {
+        return Turn::new(runner, encoding::make(NO_CALL, 0, 0), 0);
+    };
+    match call {
+        Call::Load(file) => runner.load(file).into(),
+        Call::Begin {
+            mode,
+            inputs,
+            allowed,
+            limit,
+        } => runner.begin(mode, inputs, allowed, limit).into(),
+        Call::Advance(amount) => runner.advance(amount).into(),
+        Call::Answer => Turn::new(runner, runner.answer(), 0),
+        Call::Abandon => runner.abandon().into(),
+        Call::WriteBack { room } => {
+            let told = runner.write_back(lent(buf, room));
+            Turn::new(runner, told, sum_of(buf))
+        }
+        Call::ShowBox { file, number } => {
+            let shown = chart::show_box(file, number);
+            let told = encoding::make(kinds::SHOWN, shown.len() as u64, 0);
+            Turn::new(runner, told, sum_of(shown))
+        }
+        Call::Convert { file, room } => {
+            let told = convert::convert(file, lent(buf, room));
+            Turn::new(runner, told, sum_of(buf))
+        }
+        Call::Rewrite => runner.rewrite().into(),
     }
 }
 
@@ -166,18 +168,15 @@ fn put(told: &mut [u32], i: usize, made: Encoded, sum: u32) {
 // numbers: the three of `encoding`, and the sum; calls past the room for them are made as well.
 // Numbers that are too few for one more call are not read.
 pub fn flow_script(files: &[u8], words: &[u32], told: &mut [u32], buf: &mut [u8]) -> usize {
-    let calls = words.len() / 24;
+    let (calls, _) = words.as_chunks::<24>();
+    let (rooms, _) = told.as_chunks_mut::<4>();
     let mut runner = Runner::new();
-    let mut i: usize = 0;
-    while i < calls {
-        let at = 24 * i;
-        let end = at + 24;
-        let next = i + 1;
-        let made = make(runner, files, &words[at..end], buf);
-        runner = made.runner;
-        let numbers = made.told;
-        put(told, i, numbers, made.sum);
-        i = next;
+    for (i, words) in calls.iter().enumerate() {
+        let turn = make(runner, Call::from_words(words, files), buf);
+        runner = turn.runner;
+        if let Some(room) = rooms.get_mut(i) {
+            *room = turn.numbers();
+        }
     }
-    calls
+    calls.len()
 }
