@@ -1,6 +1,6 @@
 -- Laws of joined: one piece more, its length, a piece of it, the same pieces; and how a loop that
--- lends the rest of a list joins the pieces. joined_more, joined_length, joined_rest, joined_same,
--- joined_piece; put_piece, put_next. Assumes nothing.
+-- lends the bytes of each piece joins them. joined_more, joined_length, joined_same, joined_piece;
+-- put_next. Assumes nothing.
 use Prim.Native.Nat.{ℕ, zero, suc, ◌+◌, ◌*◌, ◌≤◌, ◌<◌}
 use mathlib.Core.Path.{◌≡◌, refl, ap, sym, ◌∙◌}
 use mathlib.Core.List.{List, ◌++◌, append_assoc}
@@ -13,7 +13,6 @@ use lib.Seq.{take_at, drop_at}
 use borrow.Rule.Slice.PartMut.{put_mid}
 use Rattle.boxes.specs.Bytes.{part}
 use Rattle.chart.specs.Chart.{joined}
-use Rattle.lists.proofs.Stores.{put_front}
 
 -- Every piece below a number has one size.
 abbrev pub Sized : (ℕ → List ℕ) → ℕ → ℕ → Type 0
@@ -54,25 +53,10 @@ joined_piece piece size (suc count) r j h l =
     below : j < suc count → j ≤ count
     below l = omega arith
 
--- The pieces below j stand at the front of b, and its rest r, lent from size * j on, came back with
--- piece j at its front.
-pub put_piece : (piece : ℕ → List ℕ) (size j k : ℕ) (b r : List ℕ) → Sized piece size (j + 1) → length r ≤ k → b ≡ joined piece j ++ r
-    → put_mid (size * j) k b (piece j ++ drop size (take k (drop (size * j) b))) ≡ joined piece (j + 1) ++ drop size r
-put_piece piece size j k b r h l e =
-    let before : length (joined piece j) ≡ size * j = joined_length piece size j (λ i q. h i (omega arith)) in
-    let here : size ≡ length (piece j) = sym (h j (omega arith)) in
-    rw (e, here)
-    (put_front (joined piece j) r (piece j) (length (piece j) * j) k (before ∙ ap (λ (x : ℕ). x * j) here) l
-    ∙ ap (λ (x : List ℕ). x ++ drop (length (piece j)) r) (sym (joined_more piece j)))
-
--- The same, where only the bytes of piece j were lent and came back as the piece s.
+-- The pieces below j stand at the front of b, and the bytes of piece j, lent from size * j on, came
+-- back as the piece s.
 pub put_next : (piece : ℕ → List ℕ) (size j k : ℕ) (b r s : List ℕ) → Sized piece size (j + 1) → k ≡ size → s ≡ piece j → b ≡ joined piece j ++ r
     → put_mid (size * j) k b s ≡ joined piece (j + 1) ++ drop size r
 put_next piece size j k b r s h ek es e =
     let before : length (joined piece j) ≡ size * j = joined_length piece size j (λ i q. h i (omega arith)) in
     rw (e, ek, es, take_at (joined piece j) r (size * j) before, drop_at (joined piece j) r (size * j) before, joined_more piece j, append_assoc)
-
--- The length of the pieces and the rest.
-pub joined_rest : (piece : ℕ → List ℕ) (size count : ℕ) (b r : List ℕ) → Sized piece size count → b ≡ joined piece count ++ r → length b ≡ size * count + length r
-joined_rest piece size count b r h e =
-    ap length e ∙ length-append (joined piece count) r ∙ ap (λ (n : ℕ). n + length r) (joined_length piece size count h)

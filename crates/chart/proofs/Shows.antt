@@ -1,12 +1,12 @@
--- Which part show a box returns, from the facts that lead there. Assumes nothing.
-use Rattle.std.specs.Prelude.{Ok, Err}
+-- A box that show a box returns: it stands within the file, and which part it is. shown_within,
+-- shows_box. Assumes nothing.
+use Rattle.std.specs.Prelude.{Ok}
 use Prim.Native.Nat.{ℕ, ◌+◌, ◌≤◌, ◌<◌}
 use mathlib.Core.Path.{◌≡◌}
 use mathlib.Core.List.{List}
 use native.Mathlib.Omega.{arith}
 use lib.ListN.{length}
-use borrow.Author.Tests.{lt-ltb, le-ltb}
-use Rattle.block.specs.declared.Refusal.{Refusal}
+use borrow.Author.Tests.{lt-ltb}
 use Rattle.format.specs.File.{place_start, check_file}
 use Rattle.format.specs.declared.Header.{Header}
 use Rattle.format.proofs.Passes.{passes}
@@ -19,11 +19,3 @@ module _ (f : List ℕ) (p : ℕ) (h : Header) (e : check_file f ≡ Ok h) where
   pub shows_box : p < h.boxes → show_box f p ≡ record { start = place_start p; size = 10 }
   unfolding shown_by
   shows_box l = rw (e, lt-ltb p h.boxes l)
-
-  pub shows_none : h.boxes ≤ p → show_box f p ≡ record { start = 0; size = 0 }
-  unfolding shown_by
-  shows_none l = rw (e, le-ltb p h.boxes l)
-
-pub shows_refused : (f : List ℕ) (p : ℕ) (r : Refusal) → check_file f ≡ Err r → show_box f p ≡ record { start = 0; size = 0 }
-unfolding shown_by
-shows_refused f p r e = rw e

@@ -1,7 +1,6 @@
 -- A chart's file written into a buffer, by write back and by the converter: its length, the room
 -- for it, and the buffer afterwards.
-use Rattle.std.specs.Prelude.{ℕ, ◌*◌, List, ◌++◌, Bool, Result, cond, ◌&&◌, leb, length, drop}
-use Rattle.block.specs.declared.Refusal.{Refusal}
+use Rattle.std.specs.Prelude.{ℕ, ◌*◌, List, ◌++◌, Bool, cond, ◌&&◌, leb, length, drop}
 use Rattle.format.specs.File.{blocks_for, in_range}
 use Rattle.format.specs.declared.Header.{Header}
 use Rattle.chart.specs.Chart.{file_of}

@@ -2,10 +2,9 @@
 // file.
 #![tactic(auto)]
 
-ghost use Rattle.std.specs.Prelude.{◌≡◌, ◌++◌, ◌≤◌, length, drop};
-ghost use Rattle.block.specs.Block.{seal};
+ghost use Rattle.std.specs.Prelude.{◌≡◌, ◌≤◌, length};
 ghost use Rattle.chart.specs.Chart.{box_blocks, table_of, header_body, sealed_block};
-ghost use Rattle.chart.specs.WriteBack.{file_length, with_file, put_file};
+ghost use Rattle.chart.specs.WriteBack.{file_length, put_file};
 ghost use Rattle.chart.specs.ShowBox.{show_box, IsPart};
 
 use format::Header;
@@ -13,14 +12,7 @@ use format::Header;
 fn box_blocks(bytes: usize) -> usize
     ensures { result ≡ box_blocks bytes }
 {
-    let blocks = bytes / 512;
-    if blocks < 1 {
-        return 0;
-    }
-    if 5 < blocks {
-        return 4;
-    }
-    blocks - 1
+    (bytes / 512).saturating_sub(1).min(4)
 }
 
 // The box table of a file, filled block by block; the blocks that the file lacks are zero bytes.
@@ -29,55 +21,36 @@ pub fn table_of(file: &[u8]) -> [u8; 2040]
 {
     let count = box_blocks(file.len());
     let mut table = [0u8; 2040];
-    let mut j: usize = 0;
-    while j < count {
+    for j in 0..count {
         let to = 510 * j;
         let start = 512 * (1 + j);
-        let end = start + 510;
-        table[to..to + 510].copy_from_slice(&file[start..end]);
-        j += 1;
+        table[to..to + 510].copy_from_slice(&file[start..start + 510]);
     }
     table
 }
 
-// The block whose bytes 0 to 509 are these and whose check adds so much, into the front of a part.
-fn write_block(part: &mut [u8], added: u32, body: &[u8])
-    requires { (length body.now ≡ 510) × (512 ≤ length part.old) }
-    ensures { part.new ≡ seal added body.now ++ drop 512 part.old }
-{
-    part[..510].copy_from_slice(body);
-    block::seal(added, &mut part[..512]);
-}
-
+#[tactic(auto, unfolding(crate::specs::Chart::header_body))]
 fn header_body(header: Header) -> [u8; 510]
     ensures { result ≡ header_body header }
 {
     let mut body = [0u8; 510];
-    body[0] = b'F';
-    body[1] = b'L';
-    body[2] = b'O';
-    body[3] = b'W';
-    body[4] = header.edition;
-    body[5] = header.inputs;
-    body[6] = header.boxes;
-    body[7] = header.first;
+    body[..4].copy_from_slice(b"FLOW");
+    body[4..8].copy_from_slice(&[header.edition, header.inputs, header.boxes, header.first]);
     body
 }
 
-// Block j of a chart's file, into the front of a part.
-fn write_nth(header: Header, table: &[u8], j: usize, part: &mut [u8])
-    requires { (length table.now ≡ 2040) × (j ≤ 4) × (512 ≤ length part.old) }
-    ensures { part.new ≡ sealed_block header table.now j ++ drop 512 part.old }
+// Block j of a chart's file, into its part of a buffer.
+fn write_block(header: Header, table: &[u8; 2040], j: u8, part: &mut [u8])
+    requires { (j ≤ 4) × (length part.old ≡ 512) }
+    ensures { part.new ≡ sealed_block header table.now j }
 {
-    let added = format::addend(header.edition, j as u8);
     if j == 0 {
-        let body = header_body(header);
-        write_block(part, added, &body);
-        return;
+        part[..510].copy_from_slice(&header_body(header));
+    } else {
+        let start = 510 * usize::from(j - 1);
+        part[..510].copy_from_slice(&table[start..start + 510]);
     }
-    let start = 510 * (j - 1);
-    let end = start + 510;
-    write_block(part, added, &table[start..end]);
+    block::seal(format::addend(header.edition, j), part);
 }
 
 // The length of a chart's file. The contract tells callers the range.
@@ -87,43 +60,33 @@ pub fn file_length(header: Header) -> usize
     512 * format::blocks_for(header.boxes)
 }
 
-// A chart's file into the front of a buffer, each block into its own part.
-fn write_file(header: Header, table: &[u8], buf: &mut [u8])
-    requires { (length table.now ≡ 2040) × (header.boxes ≤ 204) × (file_length header ≤ length buf.old) }
-    ensures { buf.new ≡ with_file header table.now buf.old }
-{
-    let blocks = format::blocks_for(header.boxes);
-    let mut j: usize = 0;
-    while j < blocks {
-        let at = 512 * j;
-        write_nth(header, table, j, &mut buf[at..]);
-        j += 1;
-    }
-}
-
-// The file of a chart at the front of a lent buffer that has room for it; another buffer is left as
-// it was.
+// The file of a chart at the front of a lent buffer that has room for it, each block in its own
+// part; another buffer is left as it was.
+#[tactic(auto, unfolding(crate::specs::WriteBack::put_file))]
 pub fn put_file(header: Header, table: &[u8; 2040], buf: &mut [u8])
     ensures { buf.new ≡ put_file header table.now buf.old }
 {
-    if format::in_range(header) & (file_length(header) <= buf.len()) {
-        let boxes = &table[..];
-        write_file(header, boxes, buf);
+    if format::in_range(header) && file_length(header) <= buf.len() {
+        for j in 0..format::blocks_for(header.boxes) {
+            let at = 512 * j;
+            // Kept: no `From` makes a u8 of a usize.
+            write_block(header, table, j as u8, &mut buf[at..at + 512]);
+        }
     }
 }
 
 // The ten bytes of a box as a part of the lent file; an empty part where load would refuse the file
 // or no box has the number.
+#[tactic(auto, unfolding(crate::specs::ShowBox::shown_by))]
 pub fn show_box(file: &[u8], number: u32) -> &[u8]
     ensures { IsPart (show_box file.now number) file.entry result }
 {
-    let Ok(header) = format::check_file(file) else {
-        return &file[0..0];
-    };
-    if number < widen::to_u32(header.boxes) {
-        let start = format::place_start(number);
-        let end = start + 10;
-        return &file[start..end];
+    match format::check_file(file) {
+        Ok(header) if number < u32::from(header.boxes) => {
+            let start = format::place_start(number);
+            &file[start..start + 10]
+        }
+        // Kept: document 01 has an empty part for no box.
+        _ => &file[..0],
     }
-    &file[0..0]
 }

@@ -1,14 +1,9 @@
-use Prim.Native.Nat.{ℕ, ◌+◌, ◌*◌, ◌-◌}
-use mathlib.Core.Path.{◌≡◌, ap, ◌∙◌}
-use mathlib.Core.List.{List, ◌++◌}
-use native.Mathlib.Omega.{arith}
-use lib.ListN.{length, replicate, length-replicate}
-use borrow.Author.Rules.{rules}
+use Rattle.std.proofs.Common.{◌≡◌, ℕ, ◌+◌, ◌*◌, ◌-◌, ◌++◌, List, length, ap, ◌∙◌, arith, rules, replicate}
+use Rattle.std.proofs.lemmas.List.{drop-replicate}
 use Rattle.format.proofs.Places.{part_to}
 use Rattle.chart.specs.Chart.{joined, box_blocks, boxes_of, table_of}
-use Rattle.lists.proofs.Parts.{drop_replicate}
 use Rattle.chart.proofs.Lists.{length_part}
-use Rattle.chart.proofs.Joined.{Sized, joined_rest, put_next}
+use Rattle.chart.proofs.Joined.{Sized, put_next}
 use Rattle.chart.proofs.table_of.Goals as goal
 
 pub loop-j-init : goal.loop-j-init
@@ -22,10 +17,9 @@ loop-j-preserved c =
     let size : Sized (boxes_of f) 510 (l.j + 1) = λ i q. length_part f (512 * (1 + i)) 510 (omega arith) in
     let left = 2040 - 510 * l.j in
     let rest : left - 510 ≡ 2040 - 510 * (l.j + 1) = omega arith in
-    let piece = c.copy_from_slice.ensures.after ∙ part_to f (512 * (1 + l.j)) 510 in
-    let next = put_next (boxes_of f) 510 l.j (510 * l.j + 510 - 510 * l.j) l.table (replicate left 0) c.copy_from_slice.new.self size (omega arith) piece l.invariant.3
-    ∙ ap (λ (r : List ℕ). joined (boxes_of f) (l.j + 1) ++ r) (drop_replicate 510 left 0 ∙ ap (λ (n : ℕ). replicate n 0) rest) in
-    (search rules, search rules, joined_rest (boxes_of f) 510 (l.j + 1) _ _ size next ∙ omega (arith, length-replicate {A = ℕ} (2040 - 510 * (l.j + 1)) 0), next)
+    let piece : c.copy_from_slice.new.self ≡ boxes_of f l.j = c.copy_from_slice.ensures.after ∙ part_to f (512 * (1 + l.j)) 510 in
+    put_next (boxes_of f) 510 l.j (510 * l.j + 510 - 510 * l.j) l.table (replicate left 0) c.copy_from_slice.new.self size (omega arith) piece l.invariant
+    ∙ ap (λ (r : List ℕ). joined (boxes_of f) (l.j + 1) ++ r) (drop-replicate 510 left 0 ∙ ap (λ (n : ℕ). replicate n 0) rest)
 
 pub returns : goal.returns
 unfolding table_of
@@ -33,4 +27,4 @@ returns c =
     let a = c.args in
     let l = c.loop-j in
     let all : l.j ≡ box_blocks (length a.file.now) = omega arith in
-    l.invariant.3 ∙ ap (λ (m : ℕ). joined (boxes_of a.file.now) m ++ replicate (2040 - 510 * m) 0) all
+    l.invariant ∙ ap (λ (m : ℕ). joined (boxes_of a.file.now) m ++ replicate (2040 - 510 * m) 0) all
