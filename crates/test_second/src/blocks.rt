@@ -45,12 +45,11 @@ fn agrees(block: &[u8], own_number: u8) -> bool {
 
 // The first block whose check differs.
 pub fn differing(file: &[u8]) -> Option<u8> {
-    for (block, number) in file.chunks_exact(512).zip(0..) {
-        if !agrees(block, own_number(file, number)) {
-            return Some(number);
-        }
-    }
-    None
+    let (number, _) = (0..).zip(file.chunks_exact(512)).find(|(number, block)| !agrees(
+        block,
+        own_number(file, *number),
+    ))?;
+    Some(number)
 }
 
 // The checks that the blocks should have. All five are sealed; those past the file's end are of no

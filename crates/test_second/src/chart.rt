@@ -1,4 +1,6 @@
 // A chart: the bytes of its file, and what its header says.
+ghost use Rattle.std.specs.Prelude.{◌≤◌, IsSome, length};
+
 use crate::boxes::ChartBox;
 use crate::numbers::{Edition, Meaning};
 use crate::told::{Refusal, Reply, Told};
@@ -16,7 +18,9 @@ pub struct Chart {
 }
 
 // How many blocks of boxes a file of a chart's length has.
-fn box_blocks(file: &[u8]) -> Option<u8> {
+fn box_blocks(file: &[u8]) -> Option<u8>
+    ensures { IsSome result → length file.now ≤ 2560 }
+{
     match file.len() {
         1024 => Some(1),
         1536 => Some(2),
@@ -33,25 +37,12 @@ impl Chart {
         if let Some(block) = blocks::differing(file) {
             return Err(Refusal::Check(block));
         }
-        let [
-            b'F',
-            b'L',
-            b'O',
-            b'W',
-            edition,
-            inputs,
-            boxes,
-            first,
-            zeros @ ..,
-        ] = file
-        else {
+        let Some([edition, inputs, boxes, first, zeros @ ..]) = file.strip_prefix(b"FLOW") else {
             return Err(Refusal::Letters);
         };
         let edition = Edition::of(*edition).ok_or(Refusal::Letters)?;
         let mut bytes = [0; 2560];
-        for (to, from) in bytes.iter_mut().zip(file) {
-            *to = *from;
-        }
+        bytes[..file.len()].copy_from_slice(file);
         let chart = Chart {
             bytes,
             edition,
@@ -142,12 +133,8 @@ impl Chart {
         if let Some(number) = (0..self.boxes).find(|number| self.differs(*number)) {
             return Err(Refusal::OtherEdition(number));
         }
-        let (edition, number) = match self.edition {
-            Edition::One => (Edition::Two, 2),
-            Edition::Two => (Edition::One, 1),
-        };
-        self.edition = edition;
-        self.bytes[4] = number;
+        self.edition = self.edition.other();
+        self.bytes[4] = self.edition as u8;
         blocks::seal(&mut self.bytes);
         Ok(self)
     }

@@ -27,8 +27,8 @@ pub fn rewrite(bytes: &mut [u8; 2560], boxes: u8) {
     for number in 0..boxes {
         if let Some(choice) = choice_for(bytes, number) {
             let start = start(number);
-            if let Some(place) = bytes.get_mut(start..start + 10) {
-                place.copy_from_slice(&choice);
+            if let Some(decision) = bytes.get_mut(start..start + 10) {
+                decision.copy_from_slice(&choice);
             }
         }
     }

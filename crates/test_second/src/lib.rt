@@ -15,6 +15,7 @@ mod told;
 use chart::Chart;
 pub use machine::Ending;
 use machine::{Mode, Run, bit};
+use numbers::Edition;
 pub use told::{Numbers, Refusal, Reply, Told};
 
 #[derive(Clone, Copy)]
@@ -88,7 +89,7 @@ impl Model {
     // Puts a choice in the place of each decision between two copies, and forgets an ended run.
     pub fn rewrite(&mut self) -> Told {
         let mut chart = self.chart_at_rest()?;
-        if chart.edition == numbers::Edition::One {
+        if chart.edition == Edition::One {
             return Err(Refusal::Edition);
         }
         chart.rewrite();

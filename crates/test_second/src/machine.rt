@@ -158,68 +158,58 @@ impl Run {
     // counter's set.
     fn step(&mut self, chart: &Chart) -> Option<Ending> {
         self.steps = self.steps.wrapping_add(1);
-        match chart.box_at(self.at) {
-            Some(
-                ChartBox::Assignment {
-                    target,
-                    meaning,
-                    left,
-                    right,
-                    next,
-                    constant,
-                },
-            ) => {
+        // Never none, in a chart.
+        let Some(current) = chart.box_at(self.at) else {
+            return Some(self.halt());
+        };
+        match current {
+            ChartBox::Assignment {
+                target,
+                meaning,
+                left,
+                right,
+                next,
+                constant,
+            } => {
                 let value = meaning.result_of(constant, self.value(left), self.value(right));
                 let left = if meaning.reads_left() { bit(left) } else { 0 };
                 let right = if meaning.reads_right() { bit(right) } else { 0 };
                 self.assign(target, value, left | right, next);
             }
-            Some(
-                ChartBox::Decision {
-                    comparison,
-                    left,
-                    right,
-                    if_true,
-                    if_false,
-                },
-            ) => {
+            ChartBox::Decision {
+                comparison,
+                left,
+                right,
+                if_true,
+                if_false,
+            } => {
                 let holds = comparison.holds(self.value(left), self.value(right));
                 let next = if holds { if_true } else { if_false };
-                let ending = self.decide(bit(left) | bit(right), next);
-                if ending.is_some() {
-                    return ending;
+                if let Some(ending) = self.decide(bit(left) | bit(right), next) {
+                    return Some(ending);
                 }
             }
-            Some(
-                ChartBox::Choice {
-                    target,
-                    comparison,
-                    left,
-                    right,
-                    next,
-                    if_true,
-                    if_false,
-                },
-            ) => {
+            ChartBox::Halt => return Some(self.halt()),
+            ChartBox::Choice {
+                target,
+                comparison,
+                left,
+                right,
+                next,
+                if_true,
+                if_false,
+            } => {
                 let holds = comparison.holds(self.value(left), self.value(right));
                 let source = if holds { if_true } else { if_false };
                 let read = bit(left) | bit(right) | bit(if_true) | bit(if_false);
                 self.assign(target, self.value(source), read, next);
             }
-            // A chart has no other box.
-            Some(ChartBox::Halt) | None => return Some(self.halt()),
         }
         self.limited()
     }
 
     // Up to `count` boxes, fewer where the run ends; how it ends, where it does.
     pub fn advance(&mut self, chart: &Chart, count: u32) -> Option<Ending> {
-        for _ in 0..count {
-            let ending = self.step(chart);
-            if ending.is_some() {
-                return ending;
-            }
-        }
-        None
+        (0..count).find_map(|_| self.step(chart))
     }
 }

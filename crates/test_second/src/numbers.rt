@@ -5,8 +5,8 @@ ghost use Rattle.std.specs.Prelude.{◌≤◌};
 
 #[derive(Clone, Copy, Debug, PartialEq, Eq)]
 pub enum Edition {
-    One,
-    Two,
+    One = 1,
+    Two = 2,
 }
 
 impl Edition {
@@ -15,6 +15,13 @@ impl Edition {
             1 => Some(Edition::One),
             2 => Some(Edition::Two),
             _ => None,
+        }
+    }
+
+    pub fn other(self) -> Edition {
+        match self {
+            Edition::One => Edition::Two,
+            Edition::Two => Edition::One,
         }
     }
 }
