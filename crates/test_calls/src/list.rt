@@ -1,92 +1,50 @@
 // A list of calls in the making: the files that it lends, the numbers of its calls, and what is
 // lent for what they tell.
+use arrayvec::ArrayVec;
 
-// The first `kept` bytes of `files` and the first `numbers` of `words` are there; what the calls
-// tell has room for `room` numbers, and the buffer has `length` bytes, each `filled`. `fits`
-// becomes false where there are more than 8,192 bytes of files, or numbers of more than 64 calls.
+// How much is lent for what the calls tell: room for so many numbers, and a buffer of so many
+// bytes, each `filled`.
+// Kept: `fits` is a flag, since a list with more than there is room for is made as far as it goes,
+// and that is said only then.
 #[derive(Drop)]
 pub struct List {
-    pub files: [u8; 8192],
-    pub kept: usize,
-    pub words: [u32; 1536],
-    pub numbers: usize,
+    pub files: ArrayVec<u8, 8192>,
+    pub words: ArrayVec<u32, 1536>,
     pub room: usize,
     pub length: usize,
     pub filled: u8,
     pub fits: bool,
 }
 
-// A list without calls, and a buffer of 1,100 bytes, each 7.
-pub fn new() -> List {
-    List {
-        files: [0; 8192],
-        kept: 0,
-        words: [0; 1536],
-        numbers: 0,
-        room: 0,
-        length: 1100,
-        filled: 7,
-        fits: true,
-    }
-}
-
-// The numbers before a place, or all of them where there are fewer.
-pub fn numbers_to(numbers: &[u32], end: usize) -> &[u32] {
-    if end <= numbers.len() {
-        return &numbers[0..end];
-    }
-    numbers
-}
-
 impl List {
-    // A byte more of the files.
-    fn add_byte(mut self, byte: u8) -> List {
-        let at = self.kept;
-        if at < 8192 {
-            self.files[at] = byte;
-            self.kept = at + 1;
-            return self;
+    // A list without calls, and a buffer of 1,100 bytes, each 7.
+    pub fn new() -> List {
+        List {
+            files: ArrayVec::new(),
+            words: ArrayVec::new(),
+            room: 0,
+            length: 1100,
+            filled: 7,
+            fits: true,
         }
-        self.fits = false;
-        self
     }
 
     // A file behind those that are there.
-    pub fn keep(self, file: &[u8]) -> List {
-        let mut list = self;
-        for i in 0..file.len() {
-            list = list.add_byte(file[i]);
-        }
-        list
+    pub fn keep(&mut self, file: &[u8]) {
+        self.fits &= file.iter().all(|byte| self.files.try_push(*byte).is_ok());
     }
 
-    // A number more of the calls.
-    pub fn add_number(mut self, number: u32) -> List {
-        let at = self.numbers;
-        if at < 1536 {
-            self.words[at] = number;
-            self.numbers = at + 1;
-            return self;
-        }
-        self.fits = false;
-        self
+    // A call more, and room for what it tells.
+    pub fn add(&mut self, call: [u32; 24]) {
+        self.fits &= call
+            .iter()
+            .all(|number| self.words.try_push(*number).is_ok());
+        self.room = self.room.wrapping_add(4);
     }
 
     // The last numbers of the calls are not lent.
-    pub fn less(mut self, numbers: usize) -> List {
-        self.numbers = self.numbers - widen::lesser(numbers, self.numbers);
-        self
-    }
-
-    // Room for so many of the numbers told.
-    pub fn with_room(mut self, numbers: usize) -> List {
-        self.room = numbers;
-        self
-    }
-
-    pub fn with_buffer(mut self, length: usize, filled: u8) -> List {
-        self.length = length;
-        self.filled = filled;
-        self
+    pub fn less(&mut self, numbers: usize) {
+        self.words
+            .truncate(self.words.len().saturating_sub(numbers));
     }
 }

@@ -19,7 +19,7 @@ use encoding::{Encoded, Numbered, kinds};
 use runner::{Called, Runner};
 
 // Told where a kind is that of no call. No reply has it: the kinds of `encoding` are below.
-const NO_CALL: u32 = 16;
+pub const NO_CALL: u32 = 16;
 
 // A call, with the lent bytes that it names.
 #[derive(Clone, Copy)]
