@@ -5,7 +5,8 @@ use crate::files;
 use crate::random::Random;
 use arrayvec::ArrayVec;
 
-// The arguments of a begin, with a mode that may be none.
+// The arguments of a begin.
+// Kept: the mode is a number, since one that is no mode is drawn too.
 #[derive(Drop)]
 pub struct Arguments {
     pub mode: u32,
@@ -14,7 +15,8 @@ pub struct Arguments {
     pub limit: u32,
 }
 
-// The steps that a limit means, of which 01 lets 0 stand for 4,096.
+// The steps that a limit means.
+// Kept: 01 lets 0 stand for 4,096, and a limit is drawn as it is given to begin.
 pub fn steps_within(limit: u32) -> u32 {
     if limit == 0 { 4096 } else { limit }
 }

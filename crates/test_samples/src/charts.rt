@@ -1,10 +1,10 @@
 // Random charts that obey the rules: of both editions and all sizes, with loops, every kind of box,
 // operation and comparison, and halts on many ways; often all boxes are alike in both editions, and
 // often there are many decisions between two copies, which the rewriter replaces, and near misses
-// of such. A box is its ten bytes, with kind, operation and comparison as the numbers that a file
-// has.
-// Kept: where one of several things is drawn, a number is, and a match gives each of them its
-// share; tables of what may be drawn would say the shares by repeating entries.
+// of such.
+// Kept: a box is its ten bytes, with kind, operation and comparison as the numbers of a file: what
+// is drawn is for the code under test, and shares no type with it. Where one of several things is
+// drawn, a number is, and a match gives each its share; a table would repeat entries for that.
 ghost use Rattle.std.specs.Prelude.{◌<◌, ◌≤◌};
 
 use crate::files;
@@ -171,12 +171,6 @@ impl Shape {
         }
     }
 
-    fn put_boxes(self, random: &mut Random, file: &mut File) {
-        for p in 0..self.boxes {
-            files::put_box(file, p, self.random_box(random, p));
-        }
-    }
-
     // A choice cannot stand at every place, and a copy does there.
     fn branch(self, random: &mut Random, p: u32, target: u8, next: u8, made: Branch) -> [u8; 10] {
         let from = self.operand(random);
@@ -188,52 +182,6 @@ impl Shape {
             Branch::Decision => [2, 0, 1, from, target, next, elsewhere, 0, 0, 0],
             Branch::Choice if self.may_choose(p) => self.choice(random, target, 1, next),
             Branch::Choice | Branch::Copy => [1, target, 1, from, 0, next, 0, 0, 0, 0],
-        }
-    }
-
-    // Mostly a fork that the rewriter makes one box of. At times it goes back to its decision, to a
-    // halt, or to one box twice; its next boxes are near misses of one kind; or another decision
-    // goes to them too. What is put later may fall on it.
-    fn put_fork(self, random: &mut Random, file: &mut File, p: u32) {
-        let one = self.next_box(random, p);
-        let after = self.next_box(random, u32::from(one));
-        let other = if random.one_in(16) { one } else { after };
-        let past = self.next_box(random, u32::from(other));
-        let next = if random.one_in(16) { low(p) } else { past };
-        let target = variable(random);
-        let made = Branch::draw(random);
-        let near = if random.one_in(2) {
-            made
-        } else {
-            Branch::draw(random)
-        };
-        let first = self.branch(random, u32::from(one), target, next, made);
-        let second = self.branch(random, u32::from(other), target, next, near);
-        files::put_box(file, u32::from(one), first);
-        files::put_box(file, u32::from(other), second);
-        if random.one_in(3) {
-            files::put_box(file, u32::from(next), HALT);
-        }
-        if random.one_in(4) {
-            let again = self.decision(random, other, one);
-            files::put_box(file, random.below(self.boxes), again);
-        }
-        let fork = self.decision(random, one, other);
-        files::put_box(file, p, fork);
-    }
-
-    // Forks at every fourth box from the first on, and at times anywhere.
-    fn put_forks(self, random: &mut Random, file: &mut File, count: u32) {
-        for i in 0..count {
-            let anywhere = random.below(self.boxes);
-            let is_astray = random.one_in(6);
-            let fourth = 4 * (i % 64);
-            let p = if is_astray || self.boxes <= fourth {
-                anywhere
-            } else {
-                fourth
-            };
-            self.put_fork(random, file, p);
         }
     }
 }
@@ -256,9 +204,73 @@ fn alike_below(random: &mut Random, n: u32) -> u32 {
     }
 }
 
-// A file that load accepts, at the front of a buffer; the rest of the buffer is 0 but for the
-// checks of its blocks.
-pub fn make(random: &mut Random) -> (File, Shape) {
+// The file of a chart in the making, at the front of a buffer, and its length.
+// Kept: the length stands beside the buffer, since what is behind it may be changed too, and may
+// come to be in the file.
+#[derive(Clone, Copy)]
+pub struct Draft {
+    pub file: File,
+    pub length: usize,
+    pub shape: Shape,
+}
+
+impl Draft {
+    fn put_boxes(&mut self, random: &mut Random) {
+        for p in 0..self.shape.boxes {
+            files::put_box(&mut self.file, p, self.shape.random_box(random, p));
+        }
+    }
+
+    // Mostly a fork that the rewriter makes one box of. At times it goes back to its decision, to a
+    // halt, or to one box twice; its next boxes are near misses of one kind; or another decision
+    // goes to them too. What is put later may fall on it.
+    fn put_fork(&mut self, random: &mut Random, p: u32) {
+        let shape = self.shape;
+        let one = shape.next_box(random, p);
+        let after = shape.next_box(random, u32::from(one));
+        let other = if random.one_in(16) { one } else { after };
+        let past = shape.next_box(random, u32::from(other));
+        let next = if random.one_in(16) { low(p) } else { past };
+        let target = variable(random);
+        let made = Branch::draw(random);
+        let near = if random.one_in(2) {
+            made
+        } else {
+            Branch::draw(random)
+        };
+        let first = shape.branch(random, u32::from(one), target, next, made);
+        let second = shape.branch(random, u32::from(other), target, next, near);
+        files::put_box(&mut self.file, u32::from(one), first);
+        files::put_box(&mut self.file, u32::from(other), second);
+        if random.one_in(3) {
+            files::put_box(&mut self.file, u32::from(next), HALT);
+        }
+        if random.one_in(4) {
+            let again = shape.decision(random, other, one);
+            files::put_box(&mut self.file, random.below(shape.boxes), again);
+        }
+        let fork = shape.decision(random, one, other);
+        files::put_box(&mut self.file, p, fork);
+    }
+
+    // Forks at every fourth box from the first on, and at times anywhere.
+    fn put_forks(&mut self, random: &mut Random, count: u32) {
+        for i in 0..count {
+            let anywhere = random.below(self.shape.boxes);
+            let is_astray = random.one_in(6);
+            let fourth = 4 * (i % 64);
+            let p = if is_astray || self.shape.boxes <= fourth {
+                anywhere
+            } else {
+                fourth
+            };
+            self.put_fork(random, p);
+        }
+    }
+}
+
+// A file that load accepts; the rest of the buffer is 0 but for the checks of its blocks.
+pub fn make(random: &mut Random) -> Draft {
     let boxes = boxes_number(random);
     let inputs = random.below(17);
     let any = random.below(boxes);
@@ -275,11 +287,15 @@ pub fn make(random: &mut Random) -> (File, Shape) {
         edition,
         alike,
     };
-    let mut file = [0; 3072];
-    files::put_header(&mut file, edition as u8, inputs, boxes, first);
-    shape.put_boxes(random, &mut file);
+    let mut draft = Draft {
+        file: [0; 3072],
+        length: files::length_of(boxes),
+        shape,
+    };
+    files::put_header(&mut draft.file, edition as u8, inputs, boxes, first);
+    draft.put_boxes(random);
     let forks = forks_number(random, boxes);
-    shape.put_forks(random, &mut file, forks);
-    files::mend(&mut file);
-    (file, shape)
+    draft.put_forks(random, forks);
+    files::mend(&mut draft.file);
+    draft
 }

@@ -1,8 +1,9 @@
-// Chart files in a lent buffer: bytes, places and checks. A byte past the end is not put, and reads
-// as 0. What a file is to have is said here again, as the files are made for the code under test.
+// Chart files in a buffer: bytes, places and checks. A byte past the end is not put, and reads as 0.
+// Kept: bytes at places, lengths, headers and checks are said here again, apart from the code that
+// is tested on these files. Editions are bytes, as byte 4 may be that of none.
 ghost use Rattle.std.specs.Prelude.{◌<◌};
 
-// Room for the longest chart, and a block more.
+// Room for the longest chart, and a block more. How much of it is a file, whoever lends it says.
 pub type File = [u8; 3072];
 
 pub fn low(x: u32) -> u8 {
@@ -89,6 +90,7 @@ pub fn mend(file: &mut File) {
 }
 
 // Two blocks exchanged, with their checks.
+// Kept: std has no From of u32 for usize.
 pub fn exchange(file: &mut File, i: u32, j: u32) {
     let one = 512 * (i % 6) as usize;
     let two = 512 * (j % 6) as usize;

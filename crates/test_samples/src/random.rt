@@ -34,6 +34,7 @@ impl Random {
     }
 
     // The same of places and lengths.
+    // Kept: std has no From of u32 for usize.
     pub fn index(&mut self, n: u32) -> usize
         ensures { result ≤ n - 1 }
     {

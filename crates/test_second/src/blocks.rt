@@ -18,6 +18,7 @@ pub fn start(number: u8) -> usize
 
 // What a block's check takes for one more byte, after byte 509: the block's own number where byte 4
 // of block 0 is 2, whatever the letters are, else 0.
+// Kept: the edition is that byte here, since checks are looked at before it is known to be one.
 fn own_number(file: &[u8], block: u8) -> u8 {
     if file.get(4) == Some(&2) { block } else { 0 }
 }

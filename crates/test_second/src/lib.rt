@@ -68,7 +68,8 @@ impl Model {
         })
     }
 
-    // Starts a run at the first box and forgets an earlier ending.
+    // Starts a run at the first box and forgets an earlier ending. A limit 0 means 4,096.
+    // Kept: 01 gives begin these four arguments, and 0 that meaning.
     pub fn begin(&mut self, mode: u32, inputs: &[u32], allowed: u32, limit: u32) -> Told {
         let chart = self.chart_at_rest()?;
         let mode = Mode::of(mode).ok_or(Refusal::Mode)?;

@@ -31,6 +31,8 @@ pub enum Ending {
 // A run under way. Word j of `marks` is about input j alone: its bit v is set where the set of
 // variable v has input j. `counter` is one set, bit j for input j. `at` is the box at hand, and
 // `steps` the count of the boxes run.
+// Kept: sets as words by input, and not by variable as in the first interpreter, are this one's own
+// structure, in which it was written apart.
 #[derive(Clone, Copy)]
 pub struct Run {
     vars: [u32; 32],

@@ -11,6 +11,7 @@ pub fn box_bytes(line: &[u8]) -> [u8; 10] {
 }
 
 // A command to the file; whether the line is one.
+// Kept: the flag is all that a caller asks; an Option of nothing would say no more.
 pub fn edit(line: &[u8], file: &mut File) -> bool {
     let first = number(line, 1);
     let second = number(line, 2);

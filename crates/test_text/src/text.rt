@@ -1,4 +1,5 @@
 // Texts: parts, pieces between separators, and numbers.
+// Kept: a part or a piece that is not there is an empty text, as all callers would make it one.
 
 // The bytes from one place to another, none where there are no such places.
 pub fn part(text: &[u8], from: usize, to: usize) -> &[u8] {
@@ -14,6 +15,7 @@ pub fn piece(text: &[u8], number: usize, apart: u8) -> &[u8] {
 }
 
 // The number that digits say. One that is too large for 32 bits loses its front.
+// Kept: parse of std refuses what is no number, and here every text has one.
 fn decimal(digits: &[u8]) -> u32 {
     digits.iter().fold(0, |value: u32, digit| {
         (value % 429496730 * 10).wrapping_add(u32::from(digit % 16))
