@@ -1,4 +1,3 @@
--- The loop over a line as a function of what is left of it, and what it makes of a line.
-pub mod Scan
+-- What is left of a part after some of its digits, and of a line after some of its parts.
+pub mod Digits
 pub mod Parsed
-pub mod Loop

@@ -1,29 +1,13 @@
 -- "lines from standard input: mode, allowed set, limit, inputs. That is 3 to 19 decimal numbers up
 -- to 4,294,967,295, without extra leading zeros, one space between, at most 255 bytes, then a
 -- newline": a line without its newline, as its numbers.
-use Rattle.std.specs.Prelude.{ℕ, ◌+◌, ◌*◌, ◌-◌, List, [], ◌∷◌, ◌++◌, map, Bool, true, false, cond, not, ◌&&◌, eqb, ltb, leb, length, replicate}
-use Rattle.line.specs.declared.parsing.Numbers.{Numbers}
+use Rattle.std.specs.Prelude.{ℕ, ◌+◌, ◌*◌, ◌-◌, List, [], ◌∷◌, map, Bool, true, false, cond, not, ◌&&◌, eqb, ltb, leb, length, Option, None, Some}
+use Rattle.std.specs.List.{slice_split}
+use Rattle.std.specs.Str.{all_ascii_digits}
 
--- "one space between": the part of a line before its first space, the parts after it, and all of
--- them.
-unfoldable pub first_part : List ℕ → List ℕ
-first_part [] = []
-first_part (b ∷ bytes) = cond (eqb b 32) [] (b ∷ first_part bytes)
-
-unfoldable pub later_parts : List ℕ → List (List ℕ)
-later_parts [] = []
-later_parts (b ∷ bytes) = cond (eqb b 32) (first_part bytes ∷ later_parts bytes) (later_parts bytes)
-
+-- "one space between": the parts of a line, which its spaces cut.
 abbrev pub parts : List ℕ → List (List ℕ)
-parts line = first_part line ∷ later_parts line
-
--- "decimal": the digits are bytes 48 to 57.
-unfoldable pub is_digit : ℕ → Bool
-is_digit b = leb 48 b && leb b 57
-
-unfoldable pub all_digits : List ℕ → Bool
-all_digits [] = true
-all_digits (b ∷ bytes) = is_digit b && all_digits bytes
+parts line = slice_split (λ b. eqb b 32) line
 
 -- The number that digits go on to from v, and the number that they are.
 unfoldable pub number_from : ℕ → List ℕ → ℕ
@@ -41,7 +25,7 @@ extra_zero (b ∷ c ∷ bytes) = eqb b 48
 
 -- One of the "decimal numbers up to 4,294,967,295, without extra leading zeros".
 unfoldable pub is_number : List ℕ → Bool
-is_number bytes = ltb 0 (length bytes) && all_digits bytes && not (extra_zero bytes) && leb (number_of bytes) 4294967295
+is_number bytes = ltb 0 (length bytes) && all_ascii_digits bytes && not (extra_zero bytes) && leb (number_of bytes) 4294967295
 
 unfoldable pub all_numbers : List (List ℕ) → Bool
 all_numbers [] = true
@@ -50,10 +34,6 @@ all_numbers (p ∷ ps) = is_number p && all_numbers ps
 unfoldable pub is_line : List ℕ → Bool
 is_line line = leb (length line) 255 && leb 3 (length (parts line)) && leb (length (parts line)) 19 && all_numbers (parts line)
 
--- At most 19 numbers, then zeros.
-unfoldable pub numbers_of : List ℕ → Numbers
-numbers_of ns = record { numbers = ns ++ replicate (19 - length ns) 0; count = length ns }
-
 -- A line's numbers, and none where it is ill-formed.
-unfoldable pub parse : List ℕ → Numbers
-parse line = numbers_of (cond (is_line line) (map number_of (parts line)) [])
+unfoldable pub parse : List ℕ → Option (List ℕ)
+parse line = cond (is_line line) (Some (map number_of (parts line))) None

@@ -1,87 +1,45 @@
 // A line of the run program, without its newline, as numbers.
-ghost use Rattle.std.specs.Prelude.{◌≡◌, [], cond, not, ◌&&◌, ◌+◌, ◌*◌, ◌-◌, ◌≤◌, eqb, leb};
-ghost use Rattle.line.specs.Parsing.{is_digit, numbers_of, parse};
+ghost use Rattle.std.specs.Prelude.{◌≡◌, ◌≤◌, length, Some, None, IfSome, if◌then◌else◌, option_map};
+ghost use Rattle.line.specs.Parsing.{number_of, is_number, parse};
 
-// The numbers of a line, then zeros; none where the line is ill-formed.
-#[derive(Clone, Copy)]
-pub struct Numbers {
-    pub numbers: [u32; 19],
-    pub count: usize,
-}
+use arrayvec::ArrayVec;
 
-fn none() -> Numbers
-    ensures { result ≡ numbers_of [] }
+// The mode, the allowed set, the limit, and at most 16 inputs.
+pub type Numbers = ArrayVec<u32, 19>;
+
+// The number that a part of a line is.
+#[tactic(auto, using(crate::proofs::Digits::at_each_byte))]
+fn number(part: &[u8]) -> Option<u32>
+    ensures { result ≡ (if is_number part.now then Some (number_of part.now) else None) }
 {
-    Numbers {
-        numbers: [0; 19],
-        count: 0,
+    if let [] | [b'0', _, ..] = part {
+        return None;
     }
+    let mut value = 0u32;
+    for &b in part {
+        if !b.is_ascii_digit() {
+            return None;
+        }
+        value = value.checked_mul(10)?.checked_add(u32::from(b - b'0'))?;
+    }
+    Some(value)
 }
 
-fn is_digit(b: u8) -> bool
-    ensures { result ≡ is_digit b }
-{
-    (b'0' <= b) & (b <= b'9')
-}
-
-// The number that one more byte makes of a number of so many digits; 4,294,967,296 where the byte
-// may not follow.
-fn extended(value: u64, digits: usize, b: u8) -> u64
-    requires { value ≤ 4294967295 }
-    ensures { result ≡ cond (is_digit b && not (not (eqb digits 0) && eqb value 0) && leb (10 * value + (b - 48)) 4294967295) (10 * value + (b - 48)) 4294967296 }
-{
-    if !is_digit(b) {
-        return 4294967296;
-    }
-    if (digits != 0) & (value == 0) {
-        return 4294967296;
-    }
-    let next = 10 * value + (b - b'0') as u64;
-    if 4294967295 < next { 4294967296 } else { next }
-}
-
-pub fn parse(line: &[u8]) -> Numbers
-    ensures { result ≡ parse line.now }
+// The numbers of a line; none where it is ill-formed.
+#[tactic(auto, using(crate::proofs::Parsed::at_first))]
+pub fn parse(line: &[u8]) -> Option<Numbers>
+    ensures value { option_map (λ ns. ns.items) result ≡ parse line.now }
+    ensures count { IfSome result (λ ns. (3 ≤ length ns.items) × (length ns.items ≤ 19)) }
 {
     if 255 < line.len() {
-        return none();
+        return None;
     }
-    let mut numbers = [0u32; 19];
-    let mut count: usize = 0;
-    let mut value: u64 = 0;
-    let mut digits: usize = 0;
-    let mut i: usize = 0;
-    while i < line.len() {
-        let b = line[i];
-        if b == b' ' {
-            if digits == 0 {
-                return none();
-            }
-            if count == 18 {
-                return none();
-            }
-            numbers[count] = value as u32;
-            count += 1;
-            value = 0;
-            digits = 0;
-        } else {
-            value = extended(value, digits, b);
-            if 4294967295 < value {
-                return none();
-            }
-            digits += 1;
-        }
-        i += 1;
+    let mut numbers = Numbers::new();
+    for part in line.split(|b| *b == b' ') {
+        numbers.try_push(number(part)?).ok()?;
     }
-    if digits == 0 {
-        return none();
+    if numbers.len() < 3 {
+        return None;
     }
-    if count < 2 {
-        return none();
-    }
-    numbers[count] = value as u32;
-    Numbers {
-        numbers,
-        count: count + 1,
-    }
+    Some(numbers)
 }

@@ -1,43 +1,40 @@
-use mathlib.Core.Path.{◌∙◌}
-use Rattle.line.proofs.Parsed.{too_long}
-use Rattle.line.proofs.Loop.{no_number, no_place, no_byte, at_space, at_byte, no_last, too_few, all_read}
+-- At each turn the part is the next of the line's parts, and at the end there are no more: `all` is
+-- what the iterator gives, `t` where this turn stands in it.
+use Rattle.std.proofs.Common.{◌≡◌, ℕ, [], ◌∷◌, ◌++◌, eqb, length, arith, rules, tests}
+use Rattle.std.proofs.lemmas.List.{length_push}
+use Rattle.std.proofs.lemmas.Iterator.Splits.{YieldsList-from_slice_split}
+use Rattle.std.proofs.lemmas.Iterator.Consumers.{YieldsList-turn, YieldsList-end}
+use Rattle.line.proofs.Parsed.{no_number, no_room, at_number, too_few, all_read}
 use Rattle.line.proofs.parsing.parse.Goals as goal
-use Rattle.line.proofs.parsing.parse.Goals.{then-b-eq32+else-digits-eq0+else-count-eq18, else-b-eq32+else-value-gt4294967295}
 
-pub returns-then-line-gt255 : goal.returns-then-line-gt255
-returns-then-line-gt255 c = c.none.ensures ∙ too_long _ c.if-line-gt255.true
+pub returns-in_err-number-clause-value : goal.returns-in_err-number-clause-value
+returns-in_err-number-clause-value c =
+    let all = YieldsList-from_slice_split _ (λ (b : ℕ). eqb b 32) c.args.line.now (search rules) (search rules) (search rules) (λ x b q k. search (rules, tests)) in
+    let t = YieldsList-turn all c.loop-part.yielded _ c.loop-part.yielded_by _ _ c.in-Some.part c.in-Some.is c.next.ensures.steps in
+    rw c.from_residual.ensures (no_number _ _ _ _ t c.loop-part.invariant c.in_err-number.ensures)
 
-pub returns-then-digits-eq0 : goal.returns-then-digits-eq0
-returns-then-digits-eq0 c = c.none-then-digits-eq0.ensures ∙ no_number c.loop-i.invariant c.loop-i-test.true c.if-b-eq32.true c.if-digits-eq0.true
+pub loop-part-preserved : goal.loop-part-preserved
+loop-part-preserved c =
+    let pushed : c.try_push.new.self.items ≡ c.loop-part.numbers.items ++ c.in_ok-number.field-0 ∷ [] = search rules in
+    let all = YieldsList-from_slice_split _ (λ (b : ℕ). eqb b 32) c.args.line.now (search rules) (search rules) (search rules) (λ x b q k. search (rules, tests)) in
+    let t = YieldsList-turn all c.loop-part.yielded _ c.loop-part.yielded_by _ _ c.in-Some.part c.in-Some.is c.next.ensures.steps in
+    rw length_push (at_number _ _ _ _ t c.loop-part.invariant _ _ c.in_ok-number.ensures pushed)
 
-pub returns-then-count-eq18 : goal.returns-then-count-eq18
-returns-then-count-eq18 c =
-    c.none-then-count-eq18.ensures
-    ∙ no_place c.loop-i.invariant c.loop-i-test.true c.if-b-eq32.true c.if-digits-eq0.false c.if-count-eq18.true
+pub returns-in_err-ok-clause-value : goal.returns-in_err-ok-clause-value
+returns-in_err-ok-clause-value c =
+    let full : length c.loop-part.numbers.items ≡ 19 = search rules in
+    let all = YieldsList-from_slice_split _ (λ (b : ℕ). eqb b 32) c.args.line.now (search rules) (search rules) (search rules) (λ x b q k. search (rules, tests)) in
+    let t = YieldsList-turn all c.loop-part.yielded _ c.loop-part.yielded_by _ _ c.in-Some.part c.in-Some.is c.next.ensures.steps in
+    rw c.from_residual-in_err-ok.ensures (no_room _ _ _ _ t c.loop-part.invariant full)
 
-pub returns-then-value-gt4294967295 : goal.returns-then-value-gt4294967295
-returns-then-value-gt4294967295 c =
-    c.none-then-value-gt4294967295.ensures
-    ∙ no_byte c.loop-i.invariant c.loop-i-test.true c.if-b-eq32.false _ c.extended-value.ensures c.if-value-gt4294967295.true
+pub returns-then-len-lt3-clause-value : goal.returns-then-len-lt3-clause-value
+returns-then-len-lt3-clause-value c =
+    let all = YieldsList-from_slice_split _ (λ (b : ℕ). eqb b 32) c.args.line.now (search rules) (search rules) (search rules) (λ x b q k. search (rules, tests)) in
+    let t = YieldsList-end all c.loop-part.yielded _ c.loop-part.yielded_by _ _ c.in-None.is c.next.ensures.steps in
+    too_few _ _ _ t.1 c.loop-part.invariant (omega (arith, c.if-len-lt3.true, c.len.ensures.value))
 
-pub loop-i-preserved : goal.loop-i-preserved
-loop-i-preserved c =
-    let h = c.loop-i.invariant in
-    let l = c.loop-i-test.true in
-    elim c.if-b-eq32.branch [
-      | then-b-eq32+else-digits-eq0+else-count-eq18 w ↦
-          rw (w.numbers-is, w.count-is, w.value-is, w.digits-is)
-          (at_space h l w.if-b-eq32.true w.if-digits-eq0.false w.if-count-eq18.false)
-      | else-b-eq32+else-value-gt4294967295 w ↦
-          rw (w.numbers-is, w.count-is, w.value-is, w.digits-is)
-          (at_byte h l w.if-b-eq32.false w.extended-value.result w.extended-value.ensures w.if-value-gt4294967295.false)
-    ]
-
-pub returns-then-digits-eq0-2 : goal.returns-then-digits-eq0-2
-returns-then-digits-eq0-2 c = c.none-then-digits-eq0-2.ensures ∙ no_last c.loop-i.invariant c.loop-i-test.false c.if-digits-eq0-2.true
-
-pub returns-then-count-lt2 : goal.returns-then-count-lt2
-returns-then-count-lt2 c = c.none-then-count-lt2.ensures ∙ too_few c.loop-i.invariant c.loop-i-test.false c.if-digits-eq0-2.false c.if-count-lt2.true
-
-pub returns : goal.returns
-returns c = all_read c.loop-i.invariant c.loop-i-test.false c.if-digits-eq0-2.false c.if-count-lt2.false
+pub returns-clause-value : goal.returns-clause-value
+returns-clause-value c =
+    let all = YieldsList-from_slice_split _ (λ (b : ℕ). eqb b 32) c.args.line.now (search rules) (search rules) (search rules) (λ x b q k. search (rules, tests)) in
+    let t = YieldsList-end all c.loop-part.yielded _ c.loop-part.yielded_by _ _ c.in-None.is c.next.ensures.steps in
+    all_read _ _ _ t.1 c.loop-part.invariant (omega (arith, c.if-len-lt3.false, c.len.ensures.value)) (omega (arith, c.len.ensures.value, c.len.ensures.fits))

@@ -1,12 +1,8 @@
--- `parse` keeps what `Holds` says at each byte, and each return cites what the line is read as
--- there.
-use Prim.Native.Nat.{◌-◌}
-use lib.ListN.{length}
-use Rattle.line.proofs.Loop.{Holds}
+-- What is left of the parts is read on to what the line is read as.
+use Rattle.std.proofs.Common.{◌≡◌, length, drop}
+use Rattle.line.specs.Parsing.{parts, parse}
+use Rattle.line.proofs.Parsed.{numbers_on}
 use Rattle.line.proofs.parsing.parse.Given as goal
 
-abbrev pub invariant-loop-i : goal.invariant-loop-i
-invariant-loop-i l = Holds l.line l.numbers l.count l.value l.digits l.i
-
-abbrev pub decreases-loop-i : goal.decreases-loop-i
-decreases-loop-i l = length l.line - l.i
+abbrev pub invariant-loop-part : goal.invariant-loop-part
+invariant-loop-part l = numbers_on l.numbers.items (drop (length l.yielded) (parts l.line)) ≡ parse l.line
