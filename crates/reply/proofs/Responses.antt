@@ -1,73 +1,44 @@
--- What the calls' promises say of the texts: load's reply, and a begin, a run to its end and its
--- answer. Assumes nothing.
-use Rattle.std.specs.Prelude.{Ok, Err, Result, ⊤}
-use Prim.Native.Nat.{ℕ}
-use mathlib.Core.Path.{◌≡◌, refl, ap, sym, ◌∙◌}
-use mathlib.Core.List.{List, []}
-use mathlib.Core.Bool.{Bool, true, false}
-use lib.ListN.{length}
-use borrow.Author.Tests.{eq-eqb, ne_eqb}
-use Rattle.io.specs.Counts.{IsPrefixLen}
-use Rattle.texts.proofs.Fronts.{printed_counts}
+-- What the calls' promises say of what is printed: whether load's chart was taken, and the reply of
+-- a begin and a run to its end. Assumes nothing.
+use Rattle.std.proofs.Common.{◌≡◌, ℕ, ◌-◌, List, [], Result, Ok, Err, is_ok, length, take, drop, refl, ap, sym, ◌∙◌, arith, take_all, length-drop}
+use Rattle.std.specs.Prelude.{⊤}
 use Rattle.block.specs.declared.Refusal.{Refusal}
-use Rattle.calls.specs.Calls.{advance, answer}
-use Rattle.line.specs.Parsing.{parse}
-use Rattle.texts.specs.Printing.{chart_text, refused_text, printed, printed_length}
-use Rattle.line.specs.declared.parsing.Numbers.{Numbers}
+use Rattle.boxes.specs.Bytes.{at}
+use Rattle.calls.specs.Calls.{begin, advance, answer}
+use Rattle.texts.specs.Printing.{printed, printed_length}
+use Rattle.texts.proofs.Fronts.{printed_counts}
+use Rattle.io.specs.Counts.{IsPrefixLen}
 use Rattle.runner.specs.Outcomes.{Outcome, outcome, call}
 use Rattle.runner.specs.Replies.{load_reply, verdict_reply, advance_reply, answer_reply}
 use Rattle.runner.specs.declared.Runner.{Runner}
-use Rattle.runner.specs.declared.LoadTold.{LoadTold}
-use Rattle.runner.specs.declared.LoadTold.TheVariants as load
-use Rattle.runner.specs.declared.AdvanceTold.{AdvanceTold}
-use Rattle.runner.specs.declared.AnswerTold.{AnswerTold}
-use Rattle.reply.specs.Reply.{reply_text, is_accepted, begin_of, run_out, answered, respond}
+use Rattle.runner.specs.declared.Loaded.{Loaded}
+use Rattle.runner.specs.declared.Advanced.{Advanced}
+use Rattle.runner.specs.declared.Answered.{Answered}
+use Rattle.reply.specs.Reply.{is_accepted, begin_of, run_reply}
 
--- So many bytes were printed on a buffer, which is afterwards as a text leaves it.
-abbrev pub Prints : List ℕ → ℕ → (out after : List ℕ) → Type 0
-Prints text r out after = (r ≡ printed_length text (length out)) × (after ≡ printed text out)
+pub accepts : (told : Result Loaded Refusal) → is_ok told ≡ is_accepted (load_reply told)
+unfolding load_reply is_accepted
+accepts (Ok c) = refl
+accepts (Err x) = refl
 
-counts : (text : List ℕ) (r : ℕ) (out after : List ℕ) → length after ≡ length out → Prints text r out after → IsPrefixLen r after
-counts text r out after l p = rw (p.0, p.1) (printed_counts text out (ap length (sym p.1) ∙ l))
+pub counts : (text out after : List ℕ) (r : ℕ) → length after ≡ length out → r ≡ printed_length text (length out) → after ≡ printed text out → IsPrefixLen r after
+counts text out after r l e f = rw (e, f) (printed_counts text out (ap length (sym f) ∙ l))
 
--- The replies of load.
-module _ (file : Outcome) (x : LoadTold) (next : Runner) (e : outcome (load_reply x) [] next ≡ file) (r : ℕ) (out after : List ℕ) (l : length after ≡ length out) where
-  abbrev Shows : List ℕ → Type 0
-  Shows text = (r ≡ printed_length text (length out)) × ((after ≡ printed text out) × IsPrefixLen r after)
+-- The begin of the numbers in a slice, whose rest are the inputs.
+begins : (s : List ℕ) (r : Runner) → call (begin (at s 0) (take (length s - 3) (drop 3 s)) (at s 1) (at s 2)) r ≡ call (begin_of s) r
+begins s r = rw (take_all (length s - 3) (drop 3 s) (omega (arith, length-drop 3 s))) refl
 
-  shows : (text : List ℕ) → Prints text r out after → Shows text
-  shows text p = (p.0, (p.1, counts text r out after l p))
+module _ (s : List ℕ) (r next : Runner) (told : Result ⊤ Refusal) (e : outcome (verdict_reply told) [] next ≡ call (begin (at s 0) (take (length s - 3) (drop 3 s)) (at s 1) (at s 2)) r) where
+  begun : outcome (verdict_reply told) [] next ≡ call (begin_of s) r
+  begun = e ∙ begins s r
 
-  abbrev Opens : Bool → Type 0
-  Opens b = (next ≡ file.next) × ((b ≡ is_accepted file.told.reply) × Shows (reply_text file.told.reply))
+  pub refuses : (x : Refusal) → told ≡ Err x → answer_reply (Err x) ≡ run_reply (call (begin_of s) r)
+  unfolding run_reply is_accepted verdict_reply answer_reply
+  refuses x q = rw (← begun, q) refl
 
-  pub opens_chart : (k n : ℕ) → x ≡ load.Chart k n → Prints (chart_text k n) r out after → Opens true
-  unfolding load_reply reply_text is_accepted
-  opens_chart k n q p = rw (sym e, q) (refl, (refl, shows (chart_text k n) p))
-
-  pub opens_refusal : (y : Refusal) → x ≡ load.Refused y → Prints (refused_text y.number y.detail) r out after → Opens false
-  unfolding load_reply reply_text is_accepted
-  opens_refusal y q p = rw (sym e, q) (refl, (refl, shows (refused_text y.number y.detail) p))
-
--- The texts of a line.
-module _ (s : Runner) (number : ℕ) (line : List ℕ) (ns : Numbers) (p : ns ≡ parse line) (r : ℕ) (out after : List ℕ) where
-  abbrev Responds : Type 0
-  Responds = Prints (respond s number line) r out after
-
-  pub ill_formed : ns.count ≡ 0 → Prints (refused_text 11 number) r out after → Responds
-  unfolding respond
-  ill_formed z q = rw (sym p, eq-eqb ns.count 0 z) q
-
-  module _ (z : ns.count ≡ 0 → ⊥) (x : Result ⊤ Refusal) (next : Runner) (e : outcome (verdict_reply x) [] next ≡ call (begin_of ns) s) where
-    pub refuses : (y : Refusal) → x ≡ Err y → Prints (refused_text y.number y.detail) r out after → Responds
-    unfolding respond answered verdict_reply reply_text is_accepted
-    refuses y w q = rw (sym p, ne_eqb ns.count 0 z, sym e, w) q
-
-    pub runs : x ≡ Ok tt → (t : AdvanceTold) (last : Runner) → outcome (advance_reply t) [] last ≡ call (advance 65535) next
-        → (told : AnswerTold) → outcome (answer_reply told) [] last ≡ call answer last → Prints (reply_text (answer_reply told)) r out after → Responds
-    unfolding respond answered verdict_reply reply_text is_accepted
-    runs w t last f told g q =
-        let end : last ≡ run_out next = ap (λ (o : Outcome). o.next) f in
-        let text : answer_reply told ≡ (call answer (run_out next)).told.reply
-        = ap (λ (o : Outcome). o.told.reply) g ∙ ap (λ (y : Runner). (call answer y).told.reply) end in
-        rw (sym p, ne_eqb ns.count 0 z, sym e, w, sym text) q
+  pub runs : (u : ⊤) → told ≡ Ok u → (t : Result Advanced Refusal) (last : Runner) → outcome (advance_reply t) [] last ≡ call (advance 65535) next
+      → (a : Result Answered Refusal) → outcome (answer_reply a) [] last ≡ call answer last → answer_reply a ≡ run_reply (call (begin_of s) r)
+  unfolding run_reply is_accepted verdict_reply
+  runs u q t last f a g =
+      rw (← begun, q)
+      (ap (λ (o : Outcome). o.told.reply) g ∙ ap (λ (o : Outcome). (call answer o.next).told.reply) f)

@@ -1,11 +1,10 @@
 -- What the run program prints: "It prints the chart line (k and n), then a line per run. .. A
 -- refused chart prints its refusal and ends. A refused line prints its refusal, and the next line
 -- is read."
-use Rattle.std.specs.Prelude.{ℕ, ◌-◌, List, [], Bool, true, false, cond, eqb}
-use Rattle.boxes.specs.Bytes.{at, part}
+use Rattle.std.specs.Prelude.{ℕ, List, [], Bool, true, false, cond, drop, Option, Some, None}
+use Rattle.boxes.specs.Bytes.{at}
 use Rattle.line.specs.Parsing.{parse}
 use Rattle.texts.specs.Printing.{chart_text, value_text, notice_text, spent_text, refused_text}
-use Rattle.line.specs.declared.parsing.Numbers.{Numbers}
 use Rattle.machine.specs.Run.{Ending, valued, notice, spent}
 use Rattle.calls.specs.Calls.{Call, load, begin, advance, answer}
 use Rattle.runner.specs.Outcomes.{Reply, done, chart, running, ended, ending, wrote, refused, Outcome, call}
@@ -39,19 +38,28 @@ is_accepted (refused number detail) = false
 abbrev pub loading : List ℕ → Runner → Outcome
 loading file r = call (load file) r
 
--- "mode, allowed set, limit, inputs": the begin that a line asks for.
-abbrev pub begin_of : Numbers → Call
-begin_of ns = begin (at ns.numbers 0) (part ns.numbers 3 (ns.count - 3)) (at ns.numbers 1) (at ns.numbers 2)
+-- "mode, allowed set, limit, inputs": the begin that the numbers of a line ask for.
+abbrev pub begin_of : List ℕ → Call
+begin_of ns = begin (at ns 0) (drop 3 ns) (at ns 1) (at ns 2)
 
 -- A run to its end, by an amount that no limit exceeds.
 abbrev pub run_out : Runner → Runner
 run_out r = (call (advance 65535) r).next
 
--- The text of a begin that has been asked for: its refusal, or the ending of the run.
-unfoldable pub answered : Outcome → List ℕ
-answered o = cond (is_accepted o.told.reply) (reply_text (call answer (run_out o.next)).told.reply) (reply_text o.told.reply)
+-- What is told of a begin that has been asked for: its refusal, or the ending of the run.
+unfoldable pub run_reply : Outcome → Reply
+run_reply o = cond (is_accepted o.told.reply) (call answer (run_out o.next)).told.reply o.told.reply
 
--- The text of a line. "11: the run program's line is ill-formed. Detail: line number from 1." A
--- line that is not has three numbers or more.
+-- The text of it.
+abbrev pub answered : Outcome → List ℕ
+answered o = reply_text (run_reply o)
+
+-- The text of the numbers of a line. "11: the run program's line is ill-formed. Detail: line number
+-- from 1." A line that is not has three numbers or more.
+unfoldable pub responded : Runner → (number : ℕ) → Option (List ℕ) → List ℕ
+responded r number None = refused_text 11 number
+responded r number (Some ns) = answered (call (begin_of ns) r)
+
+-- The text of a line.
 unfoldable pub respond : Runner → (number : ℕ) → (line : List ℕ) → List ℕ
-respond r number line = cond (eqb (parse line).count 0) (refused_text 11 number) (answered (call (begin_of (parse line)) r))
+respond r number line = responded r number (parse line)
