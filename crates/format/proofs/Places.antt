@@ -1,7 +1,7 @@
 -- Laws of the file's parts: the length that check 1 asks, and the places within it. Assumes
 -- nothing.
 use Prim.Native.Nat.{ℕ, ◌+◌, ◌*◌, ◌-◌, ◌/◌, ◌≤◌}
-use mathlib.Core.Path.{◌≡◌, ap, ◌∙◌}
+use mathlib.Core.Path.{◌≡◌, ap}
 use mathlib.Core.List.{List}
 use mathlib.Core.Bool.{true}
 use mathlib.Core.Logic.{⊎_elim}
@@ -11,16 +11,12 @@ use lib.Dec.{eqb}
 use lib.ListN.{take, drop}
 use borrow.Author.Tests.{eqb-true}
 use Rattle.boxes.specs.Bytes.{part}
-use Rattle.format.specs.File.{place_start, place_of, length_rule}
+use Rattle.format.specs.File.{length_rule}
 use Rattle.boxes.proofs.Bools.{or_cases}
 
 -- A part whose end is written as its start and its size.
 pub part_to : (f : List ℕ) (a size : ℕ) → take (a + size - a) (drop a f) ≡ part f a size
 part_to f a size = ap (λ (m : ℕ). take m (drop a f)) (add-sub_cancel_left a size)
-
--- Ten bytes from where place p starts.
-pub place_to : (f : List ℕ) (a p : ℕ) → a ≡ place_start p → take (a + 10 - a) (drop a f) ≡ place_of f p
-place_to f a p e = part_to f a 10 ∙ ap (λ (x : ℕ). part f x 10) e
 
 -- A length that check 1 passes is that of 2 to 5 whole blocks.
 pub record Blocks (n : ℕ) : Type 0 where
