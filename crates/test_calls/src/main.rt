@@ -86,10 +86,9 @@ fn lists(rt: &(impl Print + AllocGlobal), text: &[u8]) -> io::Result<()> {
 
 // Standard input has room for fewer than 65,536 bytes.
 fn main(rt: HostRuntime) -> io::Result<()> {
-    let mut text = [0u8; 65536];
-    let length = input::read(&rt, &mut text)?;
-    if length == 65536 {
+    let text = input::read(&rt, 65536)?;
+    if text.len() == 65536 {
         return println!(&rt; "standard input is too long");
     }
-    lists(&rt, part(&text, 0, length))
+    lists(&rt, &text)
 }

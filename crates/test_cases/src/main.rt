@@ -21,7 +21,6 @@ use test_samples::files::File;
 use test_samples::random::Random;
 use test_text::input;
 use test_text::print::say;
-use test_text::text::part;
 
 // Where the random numbers start.
 const SEED: u64 = 88172645463325252;
@@ -56,14 +55,13 @@ fn random_cases() -> Pair {
 }
 
 // The cases of standard input, which has room for fewer than 65,536 bytes.
-fn fixed_cases(rt: &(impl Input + Print), file: &mut File) -> io::Result<bool> {
-    let mut text = [0u8; 65536];
-    let length = input::read(rt, &mut text)?;
-    if length == 65536 {
+fn fixed_cases(rt: &(impl Input + Print + AllocGlobal), file: &mut File) -> io::Result<bool> {
+    let text = input::read(rt, 65536)?;
+    if text.len() == 65536 {
         say(rt, b"standard input is too long\n")?;
         return Ok(false);
     }
-    commands::run(rt, part(&text, 0, length), file)
+    commands::run(rt, &text, file)
 }
 
 fn main(rt: HostRuntime) -> io::Result<()> {

@@ -2,17 +2,9 @@
 use std::io;
 use std::io::Read;
 
-// Reads to the front of a buffer until it is full or the input ends, and answers how many bytes
-// there were.
-pub fn read(rt: &impl Input, buffer: &mut [u8]) -> io::Result<usize> {
-    let mut input = rt.reader();
-    let mut length: usize = 0;
-    while length < buffer.len() {
-        let more = input.read(&mut buffer[length..])?;
-        if more == 0 {
-            break;
-        }
-        length += more;
-    }
-    Ok(length)
+// The bytes of standard input, of which there may be more than are read.
+pub fn read(rt: &(impl Input + AllocGlobal), most: u64) -> io::Result<Vec<u8>> {
+    let mut bytes = Vec::new(rt.alloc());
+    rt.reader().take(most).read_to_end(&mut bytes)?;
+    Ok(bytes)
 }
