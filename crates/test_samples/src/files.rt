@@ -7,7 +7,7 @@ ghost use Rattle.std.specs.Prelude.{◌<◌};
 pub type File = [u8; 3072];
 
 pub fn low(x: u32) -> u8 {
-    (x & 0xff) as u8
+    x.to_le_bytes()[0]
 }
 
 pub fn put(file: &mut File, at: usize, byte: u8) {

@@ -2,6 +2,7 @@
 // 13, 7 and 17.
 ghost use Rattle.std.specs.Prelude.{◌-◌, ◌≤◌};
 
+// Kept: TryFrom would have a refusal that never comes.
 fn high(x: u64) -> u32 {
     (x >> 32) as u32
 }

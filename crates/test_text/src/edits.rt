@@ -11,7 +11,9 @@ pub fn box_bytes(line: &[u8]) -> [u8; 10] {
 }
 
 // A command to the file; whether the line is one.
-// Kept: the flag is all that a caller asks; an Option of nothing would say no more.
+// Kept: the flag is all that a caller asks; an Option of nothing would say no more. Each command
+// is a line of a match, as a table of functions would not take these arguments. And std has no From
+// of u32 for usize.
 pub fn edit(line: &[u8], file: &mut File) -> bool {
     let first = number(line, 1);
     let second = number(line, 2);
