@@ -10,7 +10,7 @@ ghost use Rattle.runner.specs.Replies.{reply_by, progress_told, ending_told};
 ghost use Rattle.encoding.specs.Encoding.{numbers, encode, EncodesOnce};
 
 use block::Refusal;
-use runner::{Advanced, Answered, Loaded};
+use runner::{Advanced, Answered, Ending, Loaded};
 
 // A kind, one of `kinds`, and its two values.
 #[derive(Clone, Copy, Debug, PartialEq, Eq)]
@@ -74,12 +74,11 @@ impl Numbered for Answered {
 
     #[tactic(auto, unfolding(crate::specs::Encoding::encode, crate::specs::Encoding::ending_numbers))]
     fn numbered(self) -> Encoded {
-        match self {
-            Answered::Value { value, steps } => make(kinds::VALUE, u64::from(value), steps),
-            Answered::Notice { named, steps } => {
-                make(kinds::NOTICE, u64::from(steps), u32::from(named))
-            }
-            Answered::Spent(steps) => make(kinds::SPENT, u64::from(steps), 0),
+        let steps = self.steps;
+        match self.ending {
+            Ending::Value(value) => make(kinds::VALUE, u64::from(value), steps),
+            Ending::Notice(named) => make(kinds::NOTICE, u64::from(steps), u32::from(named)),
+            Ending::Spent => make(kinds::SPENT, u64::from(steps), 0),
         }
     }
 }

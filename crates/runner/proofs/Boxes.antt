@@ -1,14 +1,14 @@
 -- The loop of advance: what the box at hand does, by the act that the code computed of it, how the
 -- run ends or goes on after it, and what advance leaves and tells where the loop is left. Assumes
 -- nothing.
-use Rattle.std.specs.Prelude.{Result, Ok, Err, ⊤}
+use Rattle.std.specs.Prelude.{Option, None, Some, Result, Ok, Err, ⊤}
 use Prim.Native.Nat.{ℕ, zero, suc, ◌+◌, ◌-◌, ◌*◌, ◌%◌, ◌^◌, ◌<◌, ◌≤◌}
 use mathlib.Core.Path.{◌≡◌, refl, ap, sym, ◌∙◌, subst}
 use mathlib.Core.Logic.{◌⊎◌, inl, inr, ⊎_elim}
 use mathlib.Core.List.{List, [], ◌∷◌}
 use mathlib.Core.Bool.{Bool, true, false, cond}
 use native.Mathlib.Omega.{arith}
-use lib.Dec.{eqb, ltb}
+use lib.Dec.{ltb}
 use lib.ListN.{set}
 use borrow.Author.Tests.{ltb-true, ltb-false}
 use mir.Val.{Val}
@@ -22,10 +22,11 @@ use Rattle.decode.specs.Decode.{box_from, box_at, Box, meaning}
 use Rattle.decode.proofs.Decoded.{Finds}
 use Rattle.decode.specs.declared.FlowBox.{FlowBox}
 use Rattle.block.specs.declared.Refusal.{Refusal}
-use Rattle.marks.specs.Marks.{Mode, bare, surveillance, high_water, mode_of, masks_of, set_by, hides}
+use Rattle.marks.specs.Marks.{Mode, bare, surveillance, high_water, masks_of, set_by, hides}
 use Rattle.marks.specs.declared.Masks.{Masks}
+use Rattle.marks.specs.declared.Mode.TheVariants.{Bare}
 use Rattle.machine.specs.Act.{act_by, act}
-use Rattle.machine.specs.Run.{Run, Ending, valued, notice, spent, value_in, named_in, Progress, going, over, moved, goes_on, settle, step, run}
+use Rattle.machine.specs.Run.{Run, Ending, Progress, going, over, moved, goes_on, settle, step, run}
 use Rattle.runs.specs.Whole.{disclosed}
 use Rattle.runs.proofs.Disclosed.{disclosed_by}
 use Rattle.machine.specs.declared.Act.{Act}
@@ -37,11 +38,14 @@ use Rattle.calls.specs.Calls as calls
 use Rattle.runner.specs.declared.Runner.{Runner}
 use Rattle.runner.specs.declared.Advanced.{Advanced}
 use Rattle.runner.specs.declared.Portion.{Portion}
-use Rattle.runner.specs.declared.Remains.{Remains}
-use Rattle.runner.specs.State.{chart_in, standing_of, state_of, runner_of, run_in, with_run, no_run, ended_with, flow_in, resumed}
+use Rattle.runner.specs.declared.Ending as coded
+use Rattle.runner.specs.declared.Ending.TheVariants.{Value, Notice, Spent}
+use Rattle.runner.specs.declared.Answered.{Answered}
+use Rattle.runner.specs.declared.State.TheVariants.{Ended}
+use Rattle.runner.specs.State.{chart_in, standing_of, mode_held, ending_of, kept, runner_of, run_in, with_run, no_run, ended_with, flow_in, resumed}
 use Rattle.runner.specs.Outcomes.{outcome, progress_reply, call}
 use Rattle.runner.specs.Outcomes as outcomes
-use Rattle.runner.specs.Replies.{advance_reply}
+use Rattle.runner.specs.Replies.{told_of, advance_reply}
 use Rattle.runner.specs.contracts.Runner.{the_type}
 use Rattle.runner.proofs.Runner.TheLaws.{the_laws}
 use Rattle.runner.proofs.Outcomes.{advance_runs, advance_refuses}
@@ -49,12 +53,12 @@ use Rattle.runner.proofs.Outcomes.{advance_runs, advance_refuses}
 -- The run in a runner, at another box after other steps, as the loop keeps them.
 abbrev pub seen : Runner → (at steps : ℕ) → Run
 seen s at steps =
-    record { vars = s.vars; marks = s.marks; counter = s.counter; mode = mode_of s.mode; at = at; limit = s.limit; steps = steps }
+    record { vars = s.vars; marks = s.marks; counter = s.counter; mode = mode_held s; at = at; limit = s.limit; steps = steps }
 
 -- A runner with what a box stores.
 abbrev pub placed : Runner → (vars marks : List ℕ) → (counter : ℕ) → Runner
 placed r vars marks counter =
-    with_run (record { vars = vars; marks = marks; counter = counter; mode = mode_of r.mode; at = r.at; limit = r.limit; steps = r.steps }) r
+    with_run (record { vars = vars; marks = marks; counter = counter; mode = mode_held r; at = r.at; limit = r.limit; steps = r.steps }) r
 
 -- A runner that differs from another in what boxes store alone.
 abbrev pub Stored : Runner → Runner → Type 0
@@ -67,7 +71,7 @@ stored_more r s q vars marks counter h e =
 -- The box at hand of a runner s that has come from r, by the half of its number, and the act that
 -- the code computed of it by the masks of the mode.
 pub acts : (s r : Runner) (edition : ℕ) (mode : Mode) (masks : Masks) (at half steps : ℕ) (b : FlowBox) (a : Act) → Stored r s → SixteenInputs s.marks
-    → edition ≡ r.header.edition → mode ≡ mode_of r.mode → masks ≡ masks_of mode → Finds half at
+    → edition ≡ r.header.edition → mode ≡ mode_held r → masks ≡ masks_of mode → Finds half at
     → b ≡ box_from s.table (2 * half) → a ≡ act_by (set_by masks) mode (meaning edition b) s.vars s.marks s.counter
     → (x : Act) → a ≡ x → step (flow_in r) (seen s at steps) ≡ settle x (seen s at steps)
 acts s r edition mode masks at half steps b a h small ee em en found from by x d =
@@ -77,8 +81,8 @@ acts s r edition mode masks at half steps b a h small ee em en found from by x d
     by
     ∙ ap (λ (n : Masks). act_by (set_by n) mode (meaning edition b) s.vars s.marks s.counter) en
     ∙ act_by_masks mode s.marks small (meaning edition b) s.vars s.counter in
-    ap (λ (y : Runner). settle (act (mode_of s.mode) (meaning r.header.edition (box_at y.table at)) q.vars q.marks q.counter) q) (sym h)
-    ∙ ap (λ (y : Runner). settle (act (mode_of y.mode) (meaning r.header.edition (box_at s.table at)) q.vars q.marks q.counter) q) h
+    ap (λ (y : Runner). settle (act (mode_held s) (meaning r.header.edition (box_at y.table at)) q.vars q.marks q.counter) q) (sym h)
+    ∙ ap (λ (y : Runner). settle (act (mode_held y) (meaning r.header.edition (box_at s.table at)) q.vars q.marks q.counter) q) h
     ∙ ap (λ (k : Mode). settle (act k (meaning r.header.edition (box_at s.table at)) q.vars q.marks q.counter) q) (sym em)
     ∙ ap (λ (n : ℕ). settle (act mode (meaning n (box_at s.table at)) q.vars q.marks q.counter) q) (sym ee)
     ∙ ap (λ (y : FlowBox). settle (act mode (meaning edition y) q.vars q.marks q.counter) q) (sym eb)
@@ -110,7 +114,7 @@ module _ (r : Runner) (p : Is (row the_type) r (val the_type the_laws r ∷ []))
   steps_fit = p.1.1.1.1.1.1.1.1.0.1
 
   pub marks_sixteen : SixteenInputs r.marks
-  marks_sixteen = each_sixteen r.marks _ p.1.1.1.1.1.1.1.1.1.1.1.1.1.1.0.1.1
+  marks_sixteen = each_sixteen r.marks _ p.1.1.1.1.1.1.1.1.1.1.1.0.1.1
 
 -- A box that does not end the run has left s, and goes to a box.
 pub left : (flow : ℕ → Box) (r s : Runner) (from steps : ℕ) (vars marks : List ℕ) (counter to at : ℕ) → s ≡ placed r vars marks counter → at ≡ to
@@ -121,24 +125,24 @@ left flow r s from steps vars marks counter to at e d g =
 
 -- What m boxes of a run come to: it goes on in the runner s at a box after so many steps, or it is
 -- over.
-abbrev pub CameTo : (flow : ℕ → Box) (m : ℕ) (q : Run) (s : Runner) (at end value named steps : ℕ) → Type 0
-CameTo flow m q s at end value named steps =
-    ((end ≡ 1) × (steps < 2 ^ 16) × (run flow m (going q) ≡ going (seen s at steps)))
-    ⊎ ((e : Ending) × (end ≡ state_of e) × (value ≡ value_in e) × (named ≡ named_in e) × (run flow m (going q) ≡ over e steps))
+abbrev pub CameTo : (flow : ℕ → Box) (m : ℕ) (q : Run) (s : Runner) (at : ℕ) (end : Option coded.Ending) (steps : ℕ) → Type 0
+CameTo flow m q s at end steps =
+    ((end ≡ None) × (steps < 2 ^ 16) × (run flow m (going q) ≡ going (seen s at steps)))
+    ⊎ ((e : coded.Ending) × (end ≡ Some e) × (run flow m (going q) ≡ over (ending_of e) steps))
 
-pub came_as : (flow : ℕ → Box) (m : ℕ) (q : Run) (s : Runner) (at : ℕ) {end end' value value' named named' steps steps' : ℕ}
-    → end' ≡ end → value' ≡ value → named' ≡ named → steps' ≡ steps
-    → CameTo flow m q s at end value named steps
-    → CameTo flow m q s at end' value' named' steps'
-came_as flow m q s at ee ev en es h = rw (ee, ev, en, es) h
+pub came_as : (flow : ℕ → Box) (m : ℕ) (q : Run) (s : Runner) (at : ℕ) {end end' : Option coded.Ending} {steps steps' : ℕ}
+    → end' ≡ end → steps' ≡ steps
+    → CameTo flow m q s at end steps
+    → CameTo flow m q s at end' steps'
+came_as flow m q s at ee es h = rw (ee, es) h
 
 -- What an advance is allotted of the boxes asked for: below the limit up to its last box, and then
 -- all of them, below it still, or as many as reach it.
-abbrev pub Allotted : (asked limit before boxes end : ℕ) → Type 0
+abbrev pub Allotted : (asked limit before boxes : ℕ) (end : Option coded.Ending) → Type 0
 Allotted asked limit before boxes end =
     ((k : ℕ) → 0 < k → k < boxes → before + k < limit)
-    × (((boxes ≡ asked) × (end ≡ 1) × (0 < boxes → before + boxes < limit))
-    ⊎ ((boxes ≤ asked) × (0 < boxes) × (end ≡ 4) × (limit ≤ before + boxes)))
+    × (((boxes ≡ asked) × (end ≡ None) × (0 < boxes → before + boxes < limit))
+    ⊎ ((boxes ≤ asked) × (0 < boxes) × (end ≡ Some Spent) × (limit ≤ before + boxes)))
 
 module _ (asked limit before : ℕ) where
   -- The boxes left to the limit, by whether there are any.
@@ -151,7 +155,7 @@ module _ (asked limit before : ℕ) where
   left_to false e = let l = ltb-false before limit e in (omega arith, omega arith, λ k pos below. absurd (omega arith))
 
   abbrev portion_by : Bool → (left : ℕ) → Portion
-  portion_by b left = cond b (record { boxes = asked; end = 1 }) (record { boxes = left; end = 4 })
+  portion_by b left = cond b (record { boxes = asked; end = None }) (record { boxes = left; end = Some Spent })
 
   portion_by_lem : (left : ℕ) → (0 < left) × (limit ≤ before + left) × ((k : ℕ) → 0 < k → k < left → before + k < limit)
       → (b : Bool) → ltb asked left ≡ b
@@ -167,22 +171,17 @@ module _ (asked limit before : ℕ) where
       subst (λ (x : Portion). Allotted asked limit before x.boxes x.end) (sym e)
       (portion_by_lem (left_by (ltb before limit)) (left_to (ltb before limit) refl) (ltb asked (left_by (ltb before limit))) refl)
 
-pub allotted_fits : (asked limit before boxes end : ℕ) → Allotted asked limit before boxes end → limit < 2 ^ 16 → boxes ≤ 2 ^ 16
-allotted_fits asked limit before zero end h fits = omega arith
-allotted_fits asked limit before (suc zero) end h fits = omega arith
-allotted_fits asked limit before (suc (suc k)) end h fits = let l = h.0 (suc k) (omega arith) (omega arith) in omega arith
-
 -- Where boxes are left of those allotted, boxes are to go of those asked for.
-pub to_go : (asked limit before boxes end n left : ℕ) → Allotted asked limit before boxes end → n + boxes ≡ asked + left → 0 < left → 0 < n
+pub to_go : (asked limit before boxes : ℕ) (end : Option coded.Ending) (n left : ℕ) → Allotted asked limit before boxes end → n + boxes ≡ asked + left → 0 < left → 0 < n
 to_go asked limit before boxes end n left h e pos = ⊎_elim (λ w. omega (arith, w.0)) (λ w. omega (arith, w.0)) h.1
 
 -- A run from `first` of which n of the boxes asked for are to go, and `left` of those allotted:
 -- where none is left, it has come to what all of them come to.
-abbrev pub Reached : (flow : ℕ → Box) (asked : ℕ) (first : Run) (s : Runner) (at end left n steps : ℕ) → Type 0
+abbrev pub Reached : (flow : ℕ → Box) (asked : ℕ) (first : Run) (s : Runner) (at : ℕ) (end : Option coded.Ending) (left n steps : ℕ) → Type 0
 Reached flow asked first s at end left n steps =
-    (0 < left → run flow asked (going first) ≡ run flow n (going (seen s at steps))) × (left ≤ 0 → CameTo flow asked first s at end 0 0 steps)
+    (0 < left → run flow asked (going first) ≡ run flow n (going (seen s at steps))) × (left ≤ 0 → CameTo flow asked first s at end steps)
 
-pub reached_first : (flow : ℕ → Box) (asked limit : ℕ) (r : Runner) (boxes end : ℕ) → Allotted asked limit r.steps boxes end → r.steps < 2 ^ 16
+pub reached_first : (flow : ℕ → Box) (asked limit : ℕ) (r : Runner) (boxes : ℕ) (end : Option coded.Ending) → Allotted asked limit r.steps boxes end → r.steps < 2 ^ 16
     → Reached flow asked (run_in r) r r.at end boxes asked r.steps
 reached_first flow asked limit r boxes end h fits = (
   λ pos. refl,
@@ -195,14 +194,12 @@ module _ (flow : ℕ → Box) (asked n : ℕ) (first q : Run) (t : run flow aske
   turned : (p : Progress) → step flow q ≡ p → run flow asked (going first) ≡ run flow (n - 1) p
   turned p d = t ∙ run_one flow n q h ∙ ap (run flow (n - 1)) d
 
-  pub came_over : (e : Ending) (s : Runner) (at end value named steps : ℕ) → step flow q ≡ over e (q.steps + 1) → end ≡ state_of e → value ≡ value_in e
-      → named ≡ named_in e
+  pub came_over : (e : coded.Ending) (s : Runner) (at : ℕ) (end : Option coded.Ending) (steps : ℕ) → step flow q ≡ over (ending_of e) (q.steps + 1) → end ≡ Some e
       → steps ≡ q.steps + 1
-      → CameTo flow asked first s at end value named steps
-  came_over e s at end value named steps d ee ev en es =
-      inr (e, ee, ev, en, turned _ d ∙ over_still flow (n - 1) e (q.steps + 1) ∙ ap (over e) (sym es))
+      → CameTo flow asked first s at end steps
+  came_over e s at end steps d ee es = inr (e, ee, turned _ d ∙ over_still flow (n - 1) (ending_of e) (q.steps + 1) ∙ ap (over (ending_of e)) (sym es))
 
-  pub reached_next : (limit before boxes end left : ℕ) (s : Runner) (at : ℕ) → Allotted asked limit before boxes end → limit < 2 ^ 16 → s.limit ≡ limit
+  pub reached_next : (limit before boxes : ℕ) (end : Option coded.Ending) (left : ℕ) (s : Runner) (at : ℕ) → Allotted asked limit before boxes end → limit < 2 ^ 16 → s.limit ≡ limit
       → 0 < left
       → left ≤ boxes
       → q.steps + left ≡ before + boxes
@@ -224,25 +221,14 @@ module _ (flow : ℕ → Box) (asked n : ℕ) (first q : Run) (t : run flow aske
           (λ w. let l = allot.0 (boxes - (left - 1)) (omega arith) (omega arith) in goes (omega arith))
           allot.1
 
-      last : left - 1 ≤ 0 → CameTo flow asked first s at end 0 0 (q.steps + 1)
+      last : left - 1 ≤ 0 → CameTo flow asked first s at end (q.steps + 1)
       last none =
           ⊎_elim
           (λ w.
           let l = w.2 (omega (arith, w.0)) in
           inl (w.1, omega (arith, w.0), goes (omega (arith, w.0)) ∙ run_none flow (n - 1) (going next) (omega (arith, w.0))))
-          (λ w. came_over spent s at end 0 0 (q.steps + 1) (d ∙ goes_spent next (omega (arith, el, w.3))) w.2 refl refl refl)
+          (λ w. came_over Spent s at end (q.steps + 1) (d ∙ goes_spent next (omega (arith, el, w.3))) w.2 refl)
           allot.1
-
--- The state of an ending is not that of a run under way.
-pub no_ending : (e : Ending) → state_of e ≡ 1 → ⊥
-no_ending (valued v) h = omega arith
-no_ending (notice named) h = omega arith
-no_ending spent h = omega arith
-
-not_under_way : (e : Ending) → eqb (state_of e) 1 ≡ false
-not_under_way (valued v) = refl
-not_under_way (notice named) = refl
-not_under_way spent = refl
 
 going_once : {q q' : Run} → going q ≡ going q' → q ≡ q'
 going_once e = cc
@@ -255,24 +241,29 @@ stands : (r s next : Runner) (at steps : ℕ) → Stored r s → next ≡ stands
 unfolding resumed
 stands r s next at steps h e = e ∙ ap (with_run (seen s at steps)) h
 
-abbrev keeps : Bool → (state total named : ℕ) → Remains
-keeps hidden state total named =
-    let own : Remains = record { state = state; total = total; named = named } in
-    cond (eqb state 2) own (cond hidden (record { state = 3; total = 0; named = 0 }) own)
+-- A runner with what is answered of its run in the place of its state.
+abbrev pub with_answer : Answered → Runner → Runner
+with_answer a r = runner_of (chart_in r) r.mode (run_in r) (Ended a)
 
-abbrev pub ends_with : Runner → Remains → (value : ℕ) → Runner
-ends_with r k value = runner_of (chart_in r) 0 no_run k.state k.total value k.named
+pub none_or_some {ℓ} : {A : Type ℓ} {e : coded.Ending} → ◌≡◌ {A = Option coded.Ending} None (Some e) → A
+none_or_some e = let z : ◌≡◌ {A = ℕ} 0 1 = cc in absurd (omega arith)
 
-disclosed_runner : (m : Mode) (e : Ending) (steps : ℕ) (r : Runner)
-    → ends_with r (keeps (hides m) (state_of e) steps (named_in e)) (value_in e) ≡ resumed (disclosed m (over e steps)) r
+pub some_once : {e e' : coded.Ending} → ◌≡◌ {A = Option coded.Ending} (Some e) (Some e') → e ≡ e'
+some_once e = cc
+
+abbrev pub ends_with : Runner → Answered → Runner
+ends_with r a = runner_of (chart_in r) Bare no_run (Ended a)
+
+disclosed_runner : (m : Mode) (e : coded.Ending) (steps : ℕ) (r : Runner)
+    → ends_with r (kept (hides m) e steps) ≡ resumed (disclosed m (over (ending_of e) steps)) r
 unfolding disclosed resumed ended_with
-disclosed_runner m (valued v) steps r = refl
-disclosed_runner bare (notice named) steps r = refl
-disclosed_runner surveillance (notice named) steps r = refl
-disclosed_runner high_water (notice named) steps r = refl
-disclosed_runner bare spent steps r = refl
-disclosed_runner surveillance spent steps r = refl
-disclosed_runner high_water spent steps r = refl
+disclosed_runner m (Value v) steps r = refl
+disclosed_runner bare (Notice named) steps r = refl
+disclosed_runner surveillance (Notice named) steps r = refl
+disclosed_runner high_water (Notice named) steps r = refl
+disclosed_runner bare Spent steps r = refl
+disclosed_runner surveillance Spent steps r = refl
+disclosed_runner high_water Spent steps r = refl
 
 -- What it tells of an ending is what it tells of what is disclosed.
 disclosed_reply : (m : Mode) (e : Ending) (steps : ℕ) → outcomes.ended (cond (hides m) 0 steps) ≡ progress_reply m (disclosed m (over e steps))
@@ -281,26 +272,25 @@ disclosed_reply m e steps =
     disclosed_by (λ (x : Progress). outcomes.ended (cond (hides m) 0 steps) ≡ progress_reply m x) m (over e steps) refl (λ h. rw h)
 
 -- What advance leaves and tells where its boxes have come to s.
-module _ (m todo : ℕ) (r s next : Runner) (at end value named steps : ℕ) (told : Result Advanced Refusal) (h : Stored r s)
-    (came : CameTo (flow_in r) todo (run_in r) s at end value named steps)
-    (stays : end ≡ 1 → next ≡ stands_at s at steps) (hidden : Bool) (hides-as : hidden ≡ hides (mode_of r.mode))
-    (ends : (end ≡ 1 → ⊥) → next ≡ ends_with s (keeps hidden end steps named) value) where
+module _ (m todo : ℕ) (r s next : Runner) (at : ℕ) (end : Option coded.Ending) (steps : ℕ) (told : Result Advanced Refusal) (h : Stored r s)
+    (came : CameTo (flow_in r) todo (run_in r) s at end steps)
+    (stays : end ≡ None → next ≡ stands_at s at steps) (hidden : Bool) (hides-as : hidden ≡ hides (mode_held r))
+    (ends : (e : coded.Ending) → end ≡ Some e → next ≡ ends_with s (kept hidden e steps)) where
   came_running : check (calls.advance m) (standing_of r) ≡ Ok tt → todo ≡ m
-      → advance_reply told ≡ cond (eqb end 1) (outcomes.running steps) (outcomes.ended (cond hidden 0 steps))
+      → advance_reply told ≡ told_of end hidden steps
       → outcome (advance_reply told) [] next ≡ call (calls.advance m) r
   unfolding progress_reply disclosed
   came_running on all t =
-      let mode = mode_of r.mode in
+      let mode = mode_held r in
       let boxes : run (flow_in r) m (going (run_in r)) ≡ run (flow_in r) todo (going (run_in r)) = rw all in
       ⊎_elim
       (λ w. advance_runs m r next told (going (seen s at steps)) on (ap (disclosed mode) (boxes ∙ w.2)) (t ∙ rw w.0) (stands r s next at steps h (stays w.0)))
       (λ w.
       let e = w.0 in
-      let no : eqb end 1 ≡ false = ap (λ (k : ℕ). eqb k 1) w.1 ∙ not_under_way e in
-      advance_runs m r next told (disclosed mode (over e steps)) on (ap (disclosed mode) (boxes ∙ w.4)) (t ∙ rw (no, hides-as) (disclosed_reply mode e steps))
-      (ends (λ z. no_ending e (sym w.1 ∙ z))
-      ∙ rw (w.1, w.2, w.3, hides-as)
-      (ap (λ (x : Runner). ends_with x (keeps (hides mode) (state_of e) steps (named_in e)) (value_in e)) h ∙ disclosed_runner mode e steps r)))
+      advance_runs m r next told (disclosed mode (over (ending_of e) steps)) on (ap (disclosed mode) (boxes ∙ w.2)) (t ∙ rw (w.1, hides-as) (disclosed_reply mode (ending_of e) steps))
+      (ends e w.1
+      ∙ rw hides-as
+      (ap (λ (x : Runner). ends_with x (kept (hides mode) e steps)) h ∙ disclosed_runner mode e steps r)))
       came
 
   came_resting : (x : Refusal) → check (calls.advance m) (standing_of r) ≡ Err x → todo ≡ 0 → advance_reply told ≡ outcomes.turned_away x
@@ -313,14 +303,14 @@ module _ (m todo : ℕ) (r s next : Runner) (at end value named steps : ℕ) (to
       let same : seen s at steps ≡ run_in r = going_once (sym (boxes ∙ w.2)) in
       advance_refuses m r next told x off t (stands r s next at steps h (stays w.0) ∙ ap (λ (q : Run). with_run q r) same))
       (λ w.
-      let e : going (run_in r) ≡ over w.0 steps = boxes ∙ w.4 in
+      let e : going (run_in r) ≡ over (ending_of w.0) steps = boxes ∙ w.2 in
       let z : ◌≡◌ {A = ℕ} 0 1 = cc in
       absurd (omega arith))
       came
 
   pub advance_came : (verdict : Result ⊤ Refusal) → verdict ≡ check (calls.advance m) (standing_of r)
       → todo ≡ by_verdict verdict m (λ x. 0)
-      → advance_reply told ≡ by_verdict verdict (cond (eqb end 1) (outcomes.running steps) (outcomes.ended (cond hidden 0 steps))) outcomes.turned_away
+      → advance_reply told ≡ by_verdict verdict (told_of end hidden steps) outcomes.turned_away
       → outcome (advance_reply told) [] next ≡ call (calls.advance m) r
   advance_came (Ok _) e boxes t = came_running (sym e) boxes t
   advance_came (Err x) e none t = came_resting x (sym e) none t

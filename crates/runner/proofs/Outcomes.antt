@@ -1,10 +1,9 @@
 -- The outcome of each call, case by case, over plain variables: what the proof of a method cites
 -- where it returns. Assumes nothing.
-use Rattle.std.specs.Prelude.{Result, Ok, Err, ⊤}
-use Prim.Native.Nat.{ℕ, ◌≤◌, ◌<◌}
-use mathlib.Core.Path.{◌≡◌, ap, sym, ◌∙◌}
+use Rattle.std.specs.Prelude.{true, false, Result, Ok, Err, ⊤}
+use Prim.Native.Nat.{ℕ}
+use mathlib.Core.Path.{◌≡◌, refl, ap, sym, ◌∙◌}
 use mathlib.Core.List.{List, []}
-use borrow.Author.Tests.{le-leb, lt-leb, eq-eqb, ne_eqb}
 use Rattle.block.specs.Refusing.{refusal}
 use Rattle.format.specs.File.{check_file}
 use Rattle.format.specs.declared.Header.{Header}
@@ -14,17 +13,20 @@ use Rattle.chart.specs.Chart.{table_of}
 use Rattle.chart.specs.WriteBack.{file_length, put_file}
 use Rattle.chart.proofs.Writes.{put_fits}
 use Rattle.rewrite.specs.Rewrite.{rewritten}
-use Rattle.marks.specs.Marks.{mode_of}
+use Rattle.marks.specs.Marks.{mode_of, mode_in}
+use Rattle.marks.specs.declared.Mode as code
+use Rattle.marks.specs.declared.Mode.TheVariants.{Bare, Surveillance, HighWater}
 use Rattle.machine.specs.Run.{Progress}
 use Rattle.begin.specs.Begin.{effective, first_vars, first_marks}
 use Rattle.calls.specs.Calls.{Call, refuse, file_verdict, check}
 use Rattle.calls.specs.Calls as calls
 use Rattle.calls.proofs.Permits.{write_back_fits}
 use Rattle.runner.specs.declared.Runner.{Runner}
-use Rattle.runner.specs.declared.Loaded.{Loaded}
 use Rattle.runner.specs.declared.Advanced.{Advanced}
-use Rattle.runner.specs.declared.Answered.TheVariants as answer
-use Rattle.runner.specs.State.{chart_in, standing_of, ending_in, under_way, idle, dropped, ran, resumed}
+use Rattle.runner.specs.declared.Answered.{Answered}
+use Rattle.runner.specs.declared.State.{State}
+use Rattle.runner.specs.declared.State.TheVariants.{NoRun, Running, Ended}
+use Rattle.runner.specs.State.{chart_in, is_ended_in, is_running, is_ended, standing_of, code_of, mode_held, runner_of, idle, dropped, ran, resumed}
 use Rattle.runner.specs.Outcomes.{outcome, after, progress_reply, says, outcome_by, call}
 use Rattle.runner.specs.Outcomes as outcomes
 use Rattle.runner.specs.Replies.{load_reply, verdict_reply, advance_reply, answer_reply, written_reply}
@@ -33,40 +35,53 @@ by_verdict_lem : (c : Call) (r : Runner) (v : Result ⊤ Refusal) → check c (s
 unfolding call
 by_verdict_lem c r v e = sym (ap (λ (x : Result ⊤ Refusal). outcome_by x c r) e)
 
+-- A state that is not that of an ended run.
+pub not_ended : (s : State) → ((a : Answered) → s ≡ Ended a → ⊥) → is_ended_in s ≡ false
+not_ended NoRun never = refl
+not_ended Running never = refl
+not_ended (Ended a) never = absurd (never a refl)
+
 -- Load.
 module _ (file : List ℕ) (r : Runner) where
-  pub load_busy : (x : Refusal) → x ≡ refusal 22 0 → r.state ≡ 1 → outcome (load_reply (Err x)) [] r ≡ call (calls.load file) r
+  pub load_busy : (x : Refusal) → x ≡ refusal 22 0 → is_running r ≡ true → outcome (load_reply (Err x)) [] r ≡ call (calls.load file) r
   unfolding check load_reply outcome_by
   load_busy x d e = ap (λ (y : Refusal). outcome (outcomes.turned_away y) [] r) d ∙ by_verdict_lem (calls.load file) r (refuse 22) (rw e)
 
-  pub load_accepts : (h : Header) (table : List ℕ) (next : Runner) → (r.state ≡ 1 → ⊥) → check_file file ≡ Ok h → table ≡ table_of file
+  pub load_accepts : (h : Header) (table : List ℕ) (next : Runner) → is_running r ≡ false → check_file file ≡ Ok h → table ≡ table_of file
       → next ≡ idle (record { header = h; table = table })
       → outcome (load_reply (Ok (record { inputs = h.inputs; boxes = h.boxes }))) [] next ≡ call (calls.load file) r
   unfolding check file_verdict load_reply outcome_by says after
   load_accepts h table next n e t d =
       ap (outcome (outcomes.chart h.inputs h.boxes) []) (d ∙ ap (λ (x : List ℕ). idle (record { header = h; table = x })) t)
       ∙ ap (λ (x : Header). outcome (outcomes.chart x.inputs x.boxes) [] (idle (record { header = x; table = table_of file }))) (passes file h e).header
-      ∙ by_verdict_lem (calls.load file) r (Ok tt) (rw (ne_eqb _ _ n, e))
+      ∙ by_verdict_lem (calls.load file) r (Ok tt) (rw (n, e))
 
-  pub load_refuses : (x : Refusal) → (r.state ≡ 1 → ⊥) → check_file file ≡ Err x → outcome (load_reply (Err x)) [] r ≡ call (calls.load file) r
+  pub load_refuses : (x : Refusal) → is_running r ≡ false → check_file file ≡ Err x → outcome (load_reply (Err x)) [] r ≡ call (calls.load file) r
   unfolding check file_verdict load_reply outcome_by
-  load_refuses x n e = by_verdict_lem (calls.load file) r (Err x) (rw (ne_eqb _ _ n, e))
+  load_refuses x n e = by_verdict_lem (calls.load file) r (Err x) (rw (n, e))
 
 -- Begin.
 module _ (mode : ℕ) (inputs : List ℕ) (allowed limit : ℕ) (r : Runner) where
-  -- A run at its start, with these variables, marks and limit.
-  abbrev started_with : (vars marks : List ℕ) → ℕ → Runner
-  started_with vars marks l =
-      under_way (chart_in r) mode (record { vars = vars; marks = marks; counter = 0; mode = mode_of mode; at = r.header.first; limit = l; steps = 0 })
+  -- A run at its start, with these variables, marks, limit and mode.
+  abbrev started_with : (vars marks : List ℕ) → ℕ → code.Mode → Runner
+  started_with vars marks l m =
+      runner_of (chart_in r) m (record { vars = vars; marks = marks; counter = 0; mode = mode_of mode; at = r.header.first; limit = l; steps = 0 }) Running
 
-  pub begin_accepts : (vars marks : List ℕ) (l : ℕ) → Ok tt ≡ check (calls.begin mode inputs allowed limit) (standing_of r)
-      → vars ≡ first_vars inputs → marks ≡ first_marks allowed r.header.inputs → l ≡ effective limit
-      → outcome (verdict_reply (Ok tt)) [] (started_with vars marks l) ≡ call (calls.begin mode inputs allowed limit) r
+  -- The code's mode for one of the rules is the only one that is that one.
+  mode_once : (m : code.Mode) → mode_in m ≡ mode_of mode → m ≡ code_of (mode_of mode)
+  mode_once Bare e = ap code_of e
+  mode_once Surveillance e = ap code_of e
+  mode_once HighWater e = ap code_of e
+
+  pub begin_accepts : (vars marks : List ℕ) (l : ℕ) (m : code.Mode) → Ok tt ≡ check (calls.begin mode inputs allowed limit) (standing_of r)
+      → vars ≡ first_vars inputs → marks ≡ first_marks allowed r.header.inputs → l ≡ effective limit → mode_in m ≡ mode_of mode
+      → outcome (verdict_reply (Ok tt)) [] (started_with vars marks l m) ≡ call (calls.begin mode inputs allowed limit) r
   unfolding verdict_reply outcome_by says after
-  begin_accepts vars marks l e ev em el =
-      ap (λ (x : List ℕ). outcome outcomes.done [] (started_with x marks l)) ev
-      ∙ ap (λ (x : List ℕ). outcome outcomes.done [] (started_with (first_vars inputs) x l)) em
-      ∙ ap (λ (x : ℕ). outcome outcomes.done [] (started_with (first_vars inputs) (first_marks allowed r.header.inputs) x)) el
+  begin_accepts vars marks l m e ev em el ek =
+      ap (λ (x : List ℕ). outcome outcomes.done [] (started_with x marks l m)) ev
+      ∙ ap (λ (x : List ℕ). outcome outcomes.done [] (started_with (first_vars inputs) x l m)) em
+      ∙ ap (λ (x : ℕ). outcome outcomes.done [] (started_with (first_vars inputs) (first_marks allowed r.header.inputs) x m)) el
+      ∙ ap (λ (x : code.Mode). outcome outcomes.done [] (started_with (first_vars inputs) (first_marks allowed r.header.inputs) (effective limit) x)) (mode_once m ek)
       ∙ by_verdict_lem (calls.begin mode inputs allowed limit) r (Ok tt) (sym e)
 
   pub begin_refuses : (v : Result ⊤ Refusal) (x : Refusal) → v ≡ check (calls.begin mode inputs allowed limit) (standing_of r) → v ≡ Err x
@@ -77,14 +92,14 @@ module _ (mode : ℕ) (inputs : List ℕ) (allowed limit : ℕ) (r : Runner) whe
 
 -- Advance: a run that has come to something, and one that is refused.
 module _ (m : ℕ) (r next : Runner) (told : Result Advanced Refusal) where
-  pub advance_runs : (p : Progress) → check (calls.advance m) (standing_of r) ≡ Ok tt → ran m r ≡ p → advance_reply told ≡ progress_reply (mode_of r.mode) p
+  pub advance_runs : (p : Progress) → check (calls.advance m) (standing_of r) ≡ Ok tt → ran m r ≡ p → advance_reply told ≡ progress_reply (mode_held r) p
       → next ≡ resumed p r
       → outcome (advance_reply told) [] next ≡ call (calls.advance m) r
   unfolding outcome_by says after
   advance_runs p v e t d =
       ap (λ (x : outcomes.Reply). outcome x [] next) t
-      ∙ ap (outcome (progress_reply (mode_of r.mode) p) []) d
-      ∙ ap (λ (x : Progress). outcome (progress_reply (mode_of r.mode) x) [] (resumed x r)) (sym e)
+      ∙ ap (outcome (progress_reply (mode_held r) p) []) d
+      ∙ ap (λ (x : Progress). outcome (progress_reply (mode_held r) x) [] (resumed x r)) (sym e)
       ∙ by_verdict_lem (calls.advance m) r (Ok tt) v
 
   pub advance_refuses : (x : Refusal) → check (calls.advance m) (standing_of r) ≡ Err x → advance_reply told ≡ outcomes.turned_away x → next ≡ r
@@ -97,33 +112,21 @@ module _ (m : ℕ) (r next : Runner) (told : Result Advanced Refusal) where
 
 -- Abandon, answer, write back and the rewriter.
 module _ (r : Runner) where
-  pub abandon_refuses : (v : Result ⊤ Refusal) → (r.state ≡ 1 → ⊥) → v ≡ refuse 23 → outcome (verdict_reply v) [] r ≡ call calls.abandon r
+  pub abandon_refuses : (v : Result ⊤ Refusal) → is_running r ≡ false → v ≡ refuse 23 → outcome (verdict_reply v) [] r ≡ call calls.abandon r
   unfolding check verdict_reply outcome_by
-  abandon_refuses v n e = ap (λ (x : Result ⊤ Refusal). outcome (verdict_reply x) [] r) e ∙ by_verdict_lem calls.abandon r (refuse 23) (rw (ne_eqb _ _ n))
+  abandon_refuses v n e = ap (λ (x : Result ⊤ Refusal). outcome (verdict_reply x) [] r) e ∙ by_verdict_lem calls.abandon r (refuse 23) (rw n)
 
-  pub abandon_drops : (q : Runner) → r.state ≡ 1 → q ≡ dropped r → outcome (verdict_reply (Ok tt)) [] q ≡ call calls.abandon r
+  pub abandon_drops : (q : Runner) → is_running r ≡ true → q ≡ dropped r → outcome (verdict_reply (Ok tt)) [] q ≡ call calls.abandon r
   unfolding check verdict_reply outcome_by says after
   abandon_drops q e d = ap (outcome outcomes.done []) d ∙ by_verdict_lem calls.abandon r (Ok tt) (rw e)
 
-  pub answer_refuses : (x : Refusal) → x ≡ refusal 24 0 → r.state < 2 → outcome (answer_reply (Err x)) [] r ≡ call calls.answer r
+  pub answer_refuses : (x : Refusal) → x ≡ refusal 24 0 → is_ended r ≡ false → outcome (answer_reply (Err x)) [] r ≡ call calls.answer r
   unfolding check answer_reply outcome_by
-  answer_refuses x d l = ap (λ (y : Refusal). outcome (outcomes.turned_away y) [] r) d ∙ by_verdict_lem calls.answer r (refuse 24) (rw (lt-leb _ _ l))
+  answer_refuses x d l = ap (λ (y : Refusal). outcome (outcomes.turned_away y) [] r) d ∙ by_verdict_lem calls.answer r (refuse 24) (rw l)
 
-  answer_tells : 2 ≤ r.state → outcome (outcomes.ending (ending_in r) r.total) [] r ≡ call calls.answer r
-  unfolding check outcome_by says after
-  answer_tells l = by_verdict_lem calls.answer r (Ok tt) (rw (le-leb _ _ l))
-
-  pub answer_value : 2 ≤ r.state → r.state ≡ 2 → outcome (answer_reply (Ok (answer.Value r.value r.total))) [] r ≡ call calls.answer r
-  unfolding answer_reply
-  answer_value l e = sym (rw (eq-eqb _ _ e)) ∙ answer_tells l
-
-  pub answer_notice : 2 ≤ r.state → r.state ≡ 3 → outcome (answer_reply (Ok (answer.Notice r.named r.total))) [] r ≡ call calls.answer r
-  unfolding answer_reply
-  answer_notice l e = sym (rw e) ∙ answer_tells l
-
-  pub answer_spent : 2 ≤ r.state → (r.state ≡ 2 → ⊥) → (r.state ≡ 3 → ⊥) → outcome (answer_reply (Ok (answer.Spent r.total))) [] r ≡ call calls.answer r
-  unfolding answer_reply
-  answer_spent l n m = sym (rw (ne_eqb _ _ n, ne_eqb _ _ m)) ∙ answer_tells l
+  pub answer_tells : (a : Answered) → r.state ≡ Ended a → outcome (answer_reply (Ok a)) [] r ≡ call calls.answer r
+  unfolding check answer_reply outcome_by says after
+  answer_tells a e = sym (rw e) ∙ by_verdict_lem calls.answer r (Ok tt) (rw e)
 
   -- What stands in the buffer after the file was put there, and the length told.
   pub write_back_accepts : (n : ℕ) (buffer end : List ℕ) → Ok tt ≡ check (calls.write_back buffer) (standing_of r) → n ≡ file_length r.header

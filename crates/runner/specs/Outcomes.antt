@@ -12,7 +12,7 @@ use Rattle.begin.specs.Begin.{effective}
 use Rattle.runs.specs.Whole.{Flowchart, start_of}
 use Rattle.calls.specs.Calls.{Call, load, begin, advance, answer, abandon, write_back, rewrite, check}
 use Rattle.runner.specs.declared.Runner.{Runner}
-use Rattle.runner.specs.State.{chart_in, flowchart_in, standing_of, ending_in, under_way, idle, dropped, ran, resumed}
+use Rattle.runner.specs.State.{chart_in, flowchart_in, standing_of, mode_held, ending_in, total_in, under_way, idle, dropped, ran, resumed}
 
 -- What a call replies: load "tells k and n"; "Begin and abandon tell only that they were done"; the
 -- rewriter "tells only that it was done"; advance "tells "running" or "ended", and the steps so
@@ -81,8 +81,8 @@ progress_reply mode (over e steps) = ended (cond (hides mode) 0 steps)
 unfoldable pub says : Call → Runner → Reply
 says (load file) r = chart (header_of file).inputs (header_of file).boxes
 says (begin mode inputs allowed limit) r = done
-says (advance m) r = progress_reply (mode_of r.mode) (ran m r)
-says answer r = ending (ending_in r) r.total
+says (advance m) r = progress_reply (mode_held r) (ran m r)
+says answer r = ending (ending_in r) (total_in r)
 says abandon r = done
 says (write_back buffer) r = wrote (file_length r.header)
 says rewrite r = done

@@ -1,49 +1,69 @@
 // The runner and its seven calls.
 #![tactic(auto)]
 
-ghost use Rattle.std.specs.Prelude.{◌≡◌, cond, [], ◌-◌, eqb, ltb, leb};
-ghost use Rattle.marks.specs.Marks.{mode_of, hides};
+ghost use Rattle.std.specs.Prelude.{◌≡◌, None, Some, cond, [], ◌-◌, ltb};
 ghost use Rattle.calls.specs.Calls.{load, begin, advance, answer, abandon, write_back, rewrite, by_verdict};
-ghost use Rattle.runner.specs.State.{running_state, value_state, notice_state, spent_state, new_runner, dropped};
+ghost use Rattle.runner.specs.State.{is_running_in, is_ended_in, new_runner, dropped, standing_of, kept};
 ghost use Rattle.runner.specs.Outcomes.{outcome, turned_away, call};
 ghost use Rattle.runner.specs.Outcomes as outcomes;
-ghost use Rattle.runner.specs.Replies.{load_reply, verdict_reply, advance_reply, answer_reply, written_reply};
+ghost use Rattle.runner.specs.Replies.{load_reply, verdict_reply, told_of, advance_reply, answer_reply, written_reply};
 
 use block::{Reason, Refusal};
 use calls::Standing;
 use format::Header;
-use machine::Act;
+use machine::{Act, Variables};
+use marks::Mode;
 
-// The states of a runner: no run, a run under way, and a run that has ended with a value, a notice
-// or spent.
-const NO_RUN: u8 = 0;
+// How a run ends: with a value, with a notice that names a set of inputs, or spent.
+#[derive(Clone, Copy, Debug, PartialEq, Eq)]
+pub enum Ending {
+    Value(u32),
+    Notice(u16),
+    Spent,
+}
 
-const RUNNING: u8 = 1;
+// What answer tells: the ending and the steps.
+#[derive(Clone, Copy, Debug, PartialEq, Eq)]
+pub struct Answered {
+    pub ending: Ending,
+    pub steps: u32,
+}
 
-const VALUE: u8 = 2;
+// The state of a runner: no run, a run under way, or a run that has ended.
+#[derive(Clone, Copy)]
+pub enum State {
+    NoRun,
+    Running,
+    Ended(Answered),
+}
 
-const NOTICE: u8 = 3;
+impl State {
+    fn is_running(self) -> bool
+        ensures { result ≡ is_running_in self }
+    {
+        matches!(self, State::Running)
+    }
 
-const SPENT: u8 = 4;
+    fn is_ended(self) -> bool
+        ensures { result ≡ is_ended_in self }
+    {
+        matches!(self, State::Ended(_))
+    }
+}
 
 // The chart that is held: its header and the box table. Of a run under way: the counter mark, the
 // mode, the box at hand, the limit and the steps so far, and last the variables and their marks.
-// `state` is one of the states above; `total` is the steps of an ended run, `value` its value, and
-// `named` the set of the inputs that its notice names. What a run stores to is not beside the
-// table, so that the table is not copied with it.
+// What a run stores to is not beside the table, so that the table is not copied with it.
 #[derive(Clone, Copy)]
 pub struct Runner {
     header: Header,
     table: [u8; 2040],
     counter: u16,
-    mode: u8,
+    mode: Mode,
     at: u8,
     limit: u16,
     steps: u16,
-    state: u8,
-    total: u32,
-    value: u32,
-    named: u16,
+    state: State,
     vars: [u32; 32],
     marks: [u16; 32],
 }
@@ -69,14 +89,6 @@ pub enum Advanced {
     Ended(u32),
 }
 
-// What answer tells: the ending.
-#[derive(Clone, Copy, Debug, PartialEq, Eq)]
-pub enum Answered {
-    Value { value: u32, steps: u32 },
-    Notice { named: u16, steps: u32 },
-    Spent(u32),
-}
-
 impl Runner {
     pub fn new() -> Runner
         ensures { result ≡ new_runner }
@@ -93,55 +105,67 @@ impl Runner {
             vars: [0; 32],
             marks: [0; 32],
             counter: 0,
-            mode: 0,
+            mode: Mode::Bare,
             at: 0,
             limit: 0,
             steps: 0,
-            state: NO_RUN,
-            total: 0,
-            value: 0,
-            named: 0,
+            state: State::NoRun,
         }
     }
 
     // The chart stays, and nothing of a run.
-    fn dropped(mut self) -> Runner
-        ensures { result ≡ dropped self }
+    fn drop_run(&mut self)
+        ensures { self.new ≡ dropped self.old }
     {
         self.vars = [0; 32];
         self.marks = [0; 32];
         self.counter = 0;
-        self.mode = 0;
+        self.mode = Mode::Bare;
         self.at = 0;
         self.limit = 0;
         self.steps = 0;
-        self.state = NO_RUN;
-        self.total = 0;
-        self.value = 0;
-        self.named = 0;
-        self
+        self.state = State::NoRun;
+    }
+
+    // What the refusals look at.
+    fn standing(&self) -> Standing
+        ensures { result ≡ standing_of self.now }
+    {
+        let least = if marks::hides(self.mode) {
+            u32::from(self.limit)
+        } else {
+            0
+        };
+        Standing {
+            header: self.header,
+            running: self.state.is_running(),
+            least,
+            ended: self.state.is_ended(),
+        }
     }
 
     // The chart of a file replaces the one held.
-    #[tactic(auto, using(crate::proofs::Outcomes::load_busy))]
     pub fn load(mut self, file: &[u8]) -> Called<Loaded>
         ensures { outcome (load_reply result.told) [] result.runner ≡ call (load file.now) self }
     {
-        if self.state == RUNNING {
-            let told = Err(Reason::UnderWay.into());
-            return Called { told, runner: self };
+        if self.state.is_running() {
+            return Called {
+                told: Err(Reason::UnderWay.into()),
+                runner: self,
+            };
         }
         match format::check_file(file) {
             Ok(header) => {
-                let table = chart::table_of(file);
                 self.header = header;
-                self.table = table;
-                let told = Ok(Loaded {
-                    inputs: header.inputs,
-                    boxes: header.boxes,
-                });
-                let runner = self.dropped();
-                Called { told, runner }
+                self.table = chart::table_of(file);
+                self.drop_run();
+                Called {
+                    told: Ok(Loaded {
+                        inputs: header.inputs,
+                        boxes: header.boxes,
+                    }),
+                    runner: self,
+                }
             }
             Err(refusal) => Called {
                 told: Err(refusal),
@@ -154,66 +178,51 @@ impl Runner {
     pub fn begin(mut self, mode: u32, inputs: &[u32], allowed: u32, limit: u32) -> Called<()>
         ensures { outcome (verdict_reply result.told) [] result.runner ≡ call (begin mode inputs.now allowed limit) self }
     {
-        let header = self.header;
-        let standing = standing_of(header, self.state, self.mode, self.limit);
-        if let Err(refusal) = calls::check_begin(standing, mode, inputs, allowed, limit) {
+        if let Err(refusal) = calls::check_begin(self.standing(), mode, inputs, allowed, limit) {
             return Called {
                 told: Err(refusal),
                 runner: self,
             };
         }
-        let vars = begin::first_vars(inputs);
-        let marks = begin::first_marks(allowed, header.inputs);
-        self.vars = vars;
-        self.marks = marks;
+        self.vars = begin::first_vars(inputs);
+        self.marks = begin::first_marks(allowed, self.header.inputs);
         self.counter = 0;
-        self.mode = mode as u8;
-        self.at = header.first;
+        self.mode = Mode::from(mode as u8);
+        self.at = self.header.first;
         self.limit = begin::effective(limit) as u16;
         self.steps = 0;
-        self.state = RUNNING;
-        self.total = 0;
-        self.value = 0;
-        self.named = 0;
+        self.state = State::Running;
         Called {
             told: Ok(()),
             runner: self,
         }
     }
 
-    // Runs m boxes, or fewer if the run ends, and tells which. `end` is the state that the run
-    // comes to where no box ends it before; it is RUNNING where the run has not ended.
+    // Runs m boxes, or fewer if the run ends, and tells which. `end` is how the run ends where no
+    // box ends it before; none where it goes on.
     pub fn advance(mut self, m: u32) -> Called<Advanced>
         ensures { outcome (advance_reply result.told) [] result.runner ≡ call (advance m) self }
     {
-        let standing = standing_of(self.header, self.state, self.mode, self.limit);
-        let verdict = calls::check_advance(standing, m);
-        let mode = marks::mode_of(self.mode);
+        let verdict = calls::check_advance(self.standing(), m);
+        let mode = self.mode;
         let masks = marks::masks_of(mode);
         let hidden = marks::hides(mode);
-        let before = self.steps as u32;
         let asked = amount(verdict, m);
-        let portion = allot(asked, self.limit as u32, before);
-        let reach = before + portion.boxes;
+        let portion = allot(asked, self.limit, self.steps);
+        let reach = u32::from(self.steps) + portion.boxes;
         let mut left = portion.boxes;
         let mut at = self.at;
         let mut half = decode::first_half(at);
         let mut end = portion.end;
-        let mut value: u32 = 0;
-        let mut named: u16 = 0;
         while 0 < left {
-            left = left - 1;
+            left -= 1;
             let b = decode::box_at(&self.table, half);
             let edition = self.header.edition;
-            let done = machine::run_box(
-                edition,
-                mode,
-                masks,
-                b,
-                &self.vars,
-                &self.marks,
-                self.counter,
-            );
+            let variables = Variables {
+                values: &self.vars,
+                marks: &self.marks,
+            };
+            let done = machine::run_box(edition, mode, masks, b, variables, self.counter);
             match done {
                 Act::Store {
                     target,
@@ -233,76 +242,57 @@ impl Runner {
                     half = decode::half_of(next);
                 }
                 Act::Value(v) => {
-                    end = VALUE;
-                    value = v;
+                    end = Some(Ending::Value(v));
                     break;
                 }
                 Act::Notice(set) => {
-                    end = NOTICE;
-                    named = set;
+                    end = Some(Ending::Notice(set));
                     break;
                 }
             }
         }
         let steps = reach - left;
-        if end == RUNNING {
-            self.at = at;
-            self.steps = steps as u16;
-        } else {
-            self.vars = [0; 32];
-            self.marks = [0; 32];
-            self.counter = 0;
-            self.mode = 0;
-            self.at = 0;
-            self.limit = 0;
-            self.steps = 0;
-            let ending = disclose(hidden, end, steps, named);
-            self.state = ending.state;
-            self.total = ending.total;
-            self.value = value;
-            self.named = ending.named;
+        match end {
+            None => {
+                self.at = at;
+                self.steps = steps as u16;
+            }
+            Some(ending) => {
+                self.drop_run();
+                self.state = State::Ended(disclose(hidden, ending, steps));
+            }
         }
-        let told = tell(verdict, hidden, end, steps);
-        Called { told, runner: self }
+        Called {
+            told: tell(verdict, hidden, end, steps),
+            runner: self,
+        }
     }
 
     // Drops the run under way.
-    pub fn abandon(self) -> Called<()>
+    pub fn abandon(mut self) -> Called<()>
         ensures { outcome (verdict_reply result.told) [] result.runner ≡ call abandon self }
     {
-        if self.state != RUNNING {
+        if !self.state.is_running() {
             return Called {
                 told: Err(Reason::NoRun.into()),
                 runner: self,
             };
         }
+        self.drop_run();
         Called {
             told: Ok(()),
-            runner: self.dropped(),
+            runner: self,
         }
     }
 
     // The ending. The runner that follows is the one lent: nothing is handed back.
-    #[tactic(auto, using(crate::proofs::Outcomes::answer_refuses, crate::proofs::Outcomes::answer_value, crate::proofs::Outcomes::answer_notice, crate::proofs::Outcomes::answer_spent))]
     pub fn answer(self) -> Result<Answered, Refusal>
         ensures { outcome (answer_reply result) [] self ≡ call answer self }
     {
-        let state = self.state;
-        let steps = self.total;
-        if state < VALUE {
-            return Err(Reason::NoEnding.into());
+        match self.state {
+            State::Ended(answered) => Ok(answered),
+            _ => Err(Reason::NoEnding.into()),
         }
-        Ok(match state {
-            VALUE => Answered::Value {
-                value: self.value,
-                steps,
-            },
-            NOTICE => Answered::Notice {
-                named: self.named,
-                steps,
-            },
-            _ => Answered::Spent(steps),
-        })
     }
 
     // The file of the held chart at the front of a lent buffer. The runner that follows is the one
@@ -311,8 +301,7 @@ impl Runner {
         ensures { outcome (written_reply result) buf.new self ≡ call (write_back buf.old) self }
     {
         let header = self.header;
-        let standing = standing_of(header, self.state, self.mode, self.limit);
-        calls::check_write_back(standing, buf)?;
+        calls::check_write_back(self.standing(), buf)?;
         let table = self.table;
         chart::put_file(header, &table, buf);
         Ok(chart::file_length(header))
@@ -322,41 +311,19 @@ impl Runner {
     pub fn rewrite(mut self) -> Called<()>
         ensures { outcome (verdict_reply result.told) [] result.runner ≡ call rewrite self }
     {
-        let header = self.header;
-        let standing = standing_of(header, self.state, self.mode, self.limit);
-        if let Err(refusal) = calls::check_rewrite(standing) {
+        if let Err(refusal) = calls::check_rewrite(self.standing()) {
             return Called {
                 told: Err(refusal),
                 runner: self,
             };
         }
         rewrite::rewrite(&mut self.table);
+        self.drop_run();
         Called {
             told: Ok(()),
-            runner: self.dropped(),
+            runner: self,
         }
     }
-}
-
-// What the refusals look at of a runner, by its header, state, mode and limit.
-fn standing_of(header: Header, state: u8, mode: u8, limit: u16) -> Standing
-    ensures { result ≡ record { header = header; running = eqb state running_state; least = cond (hides (mode_of mode)) limit 0; ended = leb value_state state } }
-{
-    let hidden = marks::hides(marks::mode_of(mode));
-    let least = select(hidden, limit as u32, 0);
-    Standing {
-        header,
-        running: state == RUNNING,
-        least,
-        ended: VALUE <= state,
-    }
-}
-
-// One of two numbers.
-fn select(b: bool, yes: u32, no: u32) -> u32
-    ensures { result ≡ cond b yes no }
-{
-    if b { yes } else { no }
 }
 
 // How many boxes an advance by m may run, by the verdict on it.
@@ -369,28 +336,29 @@ fn amount(verdict: Result<(), Refusal>, m: u32) -> u32
     }
 }
 
-// What an advance runs of the boxes asked for, and the state that the run has after them where none
-// of them ends it: all of them, or those that are left to the limit, after which the run is spent.
+// What an advance runs of the boxes asked for, and how the run ends after them where none of them
+// ends it: all of them, after which it goes on, or those that are left to the limit, after which it
+// is spent.
 #[derive(Clone, Copy)]
 struct Portion {
     boxes: u32,
-    end: u8,
+    end: Option<Ending>,
 }
 
-fn allot(asked: u32, limit: u32, steps: u32) -> Portion
+fn allot(asked: u32, limit: u16, steps: u16) -> Portion
     ensures { result ≡
-        (let left = cond (ltb steps limit) (limit - steps) 1 in cond (ltb asked left) (record { boxes = asked; end = running_state }) (record { boxes = left; end = spent_state })) }
+        (let left = cond (ltb steps limit) (limit - steps) 1 in cond (ltb asked left) (record { boxes = asked; end = None }) (record { boxes = left; end = Some Ending.Spent })) }
 {
-    let left = left_to(limit, steps);
+    let left = left_to(u32::from(limit), u32::from(steps));
     if asked < left {
         return Portion {
             boxes: asked,
-            end: RUNNING,
+            end: None,
         };
     }
     Portion {
         boxes: left,
-        end: SPENT,
+        end: Some(Ending::Spent),
     }
 }
 
@@ -404,48 +372,33 @@ fn left_to(limit: u32, steps: u32) -> u32
     1
 }
 
-// What is disclosed of an ended run besides its value: its state, the total of its steps, and the
-// set that it names. A value keeps its count; where counts are hidden, nothing else does.
-#[derive(Clone, Copy)]
-struct Remains {
-    state: u8,
-    total: u32,
-    named: u16,
-}
-
-fn disclose(hidden: bool, state: u8, total: u32, named: u16) -> Remains
-    ensures { result ≡
-        (let own : Remains = record { state = state; total = total; named = named } in cond (eqb state value_state) own (cond hidden (record { state = notice_state; total = 0; named = 0 }) own)) }
+// What is disclosed of an ended run. A value keeps its count; where counts are hidden, nothing else
+// does.
+fn disclose(hidden: bool, ending: Ending, steps: u32) -> Answered
+    ensures { result ≡ kept hidden ending steps }
 {
-    if state == VALUE {
-        return Remains {
-            state,
-            total,
-            named,
+    if hidden & !matches!(ending, Ending::Value(_)) {
+        return Answered {
+            ending: Ending::Notice(0),
+            steps: 0,
         };
     }
-    if hidden {
-        return Remains {
-            state: NOTICE,
-            total: 0,
-            named: 0,
-        };
-    }
-    Remains {
-        state,
-        total,
-        named,
-    }
+    Answered { ending, steps }
 }
 
-// What advance tells by the verdict on it, of a run that has come to state `end` where it was
+// What advance tells by the verdict on it, of a run that has come to such an end where it was
 // accepted.
-fn tell(verdict: Result<(), Refusal>, hidden: bool, end: u8, steps: u32) -> Result<Advanced, Refusal>
-    ensures { advance_reply result ≡ by_verdict verdict (cond (eqb end running_state) (outcomes.running steps) (outcomes.ended (cond hidden 0 steps))) turned_away }
+fn tell(
+    verdict: Result<(), Refusal>,
+    hidden: bool,
+    end: Option<Ending>,
+    steps: u32,
+) -> Result<Advanced, Refusal>
+    ensures { advance_reply result ≡ by_verdict verdict (told_of end hidden steps) turned_away }
 {
     verdict?;
-    if end == RUNNING {
-        return Ok(Advanced::Running(steps));
+    match end {
+        None => Ok(Advanced::Running(steps)),
+        Some(_) => Ok(Advanced::Ended(if hidden { 0 } else { steps })),
     }
-    Ok(Advanced::Ended(select(hidden, 0, steps)))
 }

@@ -1,8 +1,5 @@
 -- `tell` branches where its promise does.
-use mathlib.Core.Path.{ap}
 use borrow.Author.Rules.{rules}
-use borrow.Author.Tests.{ne_eqb}
-use Rattle.runner.specs.Outcomes.{ended}
 use Rattle.runner.specs.Replies.{advance_reply}
 use Rattle.runner.proofs.tell.Goals as goal
 
@@ -12,10 +9,14 @@ returns-in_err-verdict c =
     let was = c.in_err-verdict.was in
     search rules
 
-pub returns-then-end-eq-RUNNING : goal.returns-then-end-eq-RUNNING
+pub returns-in-None : goal.returns-in-None
 unfolding advance_reply
-returns-then-end-eq-RUNNING c = rw (c.in_ok-verdict.was, c.if-end-eq-RUNNING.true)
+returns-in-None c = rw (c.in_ok-verdict.was, c.in-None.is)
 
-pub returns : goal.returns
+pub returns-then-hidden : goal.returns-then-hidden
 unfolding advance_reply
-returns c = rw (c.in_ok-verdict.was, ne_eqb _ _ c.if-end-eq-RUNNING.false) (ap ended c.select.ensures)
+returns-then-hidden c = rw (c.in_ok-verdict.was, c.in-Some.is, c.if-hidden.true)
+
+pub returns-else-hidden : goal.returns-else-hidden
+unfolding advance_reply
+returns-else-hidden c = rw (c.in_ok-verdict.was, c.in-Some.is, c.if-hidden.false)

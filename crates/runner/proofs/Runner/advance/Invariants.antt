@@ -4,10 +4,10 @@
 -- the box at hand is found by `half`, and the marks are of 16 inputs.
 use Prim.Native.Nat.{ℕ, ◌+◌, ◌≤◌}
 use mathlib.Core.Path.{◌≡◌}
-use Rattle.marks.specs.Marks.{mode_of, mode_in, masks_of}
+use Rattle.marks.specs.Marks.{mode_in, masks_of}
 use Rattle.decode.proofs.Decoded.{Finds}
 use Rattle.machine.proofs.Acts.{SixteenInputs}
-use Rattle.runner.specs.State.{run_in, flow_in}
+use Rattle.runner.specs.State.{mode_held, run_in, flow_in}
 use Rattle.runner.proofs.Boxes.{Stored, Reached}
 use Rattle.runner.proofs.Runner.advance.Given as goal
 
@@ -20,10 +20,8 @@ invariant-loop-left l =
     × (n + l.initial.left ≡ l.asked + l.left)
     × (l.left ≤ l.initial.left)
     × Stored l.initial.self l.self
-    × (mode_in l.mode ≡ mode_of l.initial.self.mode)
+    × (mode_in l.mode ≡ mode_held l.initial.self)
     × (l.end ≡ l.initial.end)
-    × (l.value ≡ 0)
-    × (l.named ≡ 0)
     × (l.masks ≡ masks_of (mode_in l.mode))
     × Finds l.half l.at
     × SixteenInputs l.self.marks

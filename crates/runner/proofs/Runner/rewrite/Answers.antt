@@ -7,9 +7,9 @@ use Rattle.runner.proofs.Outcomes.{rewrite_accepts, rewrite_refuses}
 use Rattle.runner.proofs.Runner.rewrite.Goals as goal
 
 pub returns-in-Err : goal.returns-in-Err
-returns-in-Err c = rewrite_refuses c.args.self _ _ (sym c.in-Err.is ∙ c.check_rewrite.ensures ∙ ap (check rewrite) c.standing_of-standing.ensures) refl
+returns-in-Err c = rewrite_refuses c.args.self _ _ (sym c.in-Err.is ∙ c.check_rewrite.ensures ∙ ap (check rewrite) c.standing.ensures) refl
 
 pub returns : goal.returns
 unfolding dropped
 returns c =
-    rewrite_accepts c.args.self _ c.dropped.result (sym c.in_default.is ∙ c.check_rewrite.ensures ∙ ap (check rewrite) c.standing_of-standing.ensures) c.rewrite.ensures c.dropped.ensures
+    rewrite_accepts c.args.self _ c.drop_run.new.self (sym c.in_default.is ∙ c.check_rewrite.ensures ∙ ap (check rewrite) c.standing.ensures) c.rewrite.ensures c.drop_run.ensures
