@@ -1,6 +1,6 @@
 -- What an accepted call does, which one runs boxes and what it tells, and that a run under way is
 -- not answered. Assumes nothing.
-use Rattle.std.specs.Prelude.{Ok, Err, Result, ⊤}
+use Rattle.std.specs.Prelude.{Ok, Result, ⊤}
 use Rattle.block.specs.declared.Refusal.{Refusal}
 use Prim.Native.Nat.{ℕ}
 use mathlib.Core.Path.{◌≡◌, ap, subst}
@@ -9,6 +9,7 @@ use Rattle.marks.specs.Marks.{Mode, hides}
 use Rattle.machine.specs.Run.{Progress, going, over}
 use Rattle.calls.specs.Calls.{Call, load, begin, advance, answer, abandon, write_back, rewrite, check}
 use Rattle.calls.proofs.Permits.{not_done}
+use Rattle.runner.specs.declared.State.TheVariants.{Running}
 use Rattle.runner.specs.declared.Runner.{Runner}
 use Rattle.runner.specs.Outcomes.{Reply, running, ended, runs, effect, progress_reply, outcome_by, call}
 use Rattle.call_claims.specs.Lists.{Accepted}
@@ -18,7 +19,7 @@ pub call_done : (c : Call) (r : Runner) → Accepted c r → call c r ≡ outcom
 unfolding call
 call_done c r e = ap (λ (v : Result ⊤ Refusal). outcome_by v c r) e
 
-pub no_answer : (r : Runner) → r.state ≡ 1 → Accepted answer r → ⊥
+pub no_answer : (r : Runner) → r.state ≡ Running → Accepted answer r → ⊥
 unfolding check
 no_answer r h e = not_done (rw h at e)
 

@@ -4,6 +4,7 @@ use mathlib.Core.Path.{◌≡◌, ◌∙◌}
 use mathlib.Core.List.{List, Memᴰ}
 use Rattle.machine.specs.Run.{Ending, over}
 use Rattle.calls.specs.Calls.{Call}
+use Rattle.runner.specs.declared.State.TheVariants.{Running}
 use Rattle.runner.specs.declared.Runner.{Runner}
 use Rattle.runner.specs.State.{ran}
 use Rattle.runner.specs.Outcomes.{Reply, ending, Told}
@@ -12,7 +13,7 @@ use Rattle.run_claims.proofs.Branches.{clash}
 use Rattle.call_claims.proofs.Accepting.{progress_by}
 use Rattle.call_claims.proofs.Continuing.{Replied, did, holds, came, ended_so, put, turned, replied_from}
 
-module _ (r : Runner) (on : r.state ≡ 1) (e : Ending) (steps : ℕ) where
+module _ (r : Runner) (on : r.state ≡ Running) (e : Ending) (steps : ℕ) where
   ending_once : {k k' : Ending} {n n' : ℕ} → ending k n ≡ ending k' n' → over k n ≡ over k' n'
   ending_once h = cc
 

@@ -13,15 +13,17 @@ use native.Mathlib.Omega.{arith}
 use lib.Dec.{ltb}
 use borrow.Author.Tests.{lt-ltb, le-ltb, ltb-false}
 use Rattle.block.specs.Refusing.{refusal}
-use Rattle.marks.specs.Marks.{Mode, mode_of, hides}
+use Rattle.marks.specs.declared.Mode as code
+use Rattle.marks.specs.Marks.{Mode, hides, mode_in}
 use Rattle.machine.specs.Run.{Run, Ending, valued, notice, spent, Progress, going, over, run}
 use Rattle.runs.specs.Whole.{disclosed}
 use Rattle.machine.proofs.Runs.{run_add, over_twice, AsBegun, run_as_begun}
 use Rattle.runs.proofs.Disclosed.{disclosed_by}
 use Rattle.calls.specs.Calls.{Call, load, begin, advance, answer, abandon, write_back, rewrite, refuse_if, check}
 use Rattle.calls.proofs.Permits.{not_done, passed, advance_enough}
+use Rattle.runner.specs.declared.State.TheVariants.{Running}
 use Rattle.runner.specs.declared.Runner.{Runner}
-use Rattle.runner.specs.State.{is_running, is_ended, least_in, standing_of, ending_in, run_in, ended_with, flow_in, ran, resumed}
+use Rattle.runner.specs.State.{is_running, is_ended, least_in, standing_of, ending_in, run_in, ended_with, flow_in, ran, resumed, mode_held, total_in}
 use Rattle.runner.specs.Outcomes.{Reply, done, chart, ending, wrote, refused, Told, Outcome, Effect, runs, keeps, begins, drops, replaces, effect, after, progress_reply, says, outcome_by, call}
 use Rattle.call_claims.specs.Lists.{Accepted, tells, final, OnlyRuns, Continues, AllContinue, amount_of, asked}
 use Rattle.run_claims.proofs.Branches.{clash}
@@ -29,7 +31,7 @@ use Rattle.call_claims.proofs.Accepting.{call_done, runs_only}
 use Rattle.run_claims.proofs.Counting.{Over}
 
 -- Every runner here is r after so many boxes of its run.
-module _ (r : Runner) (on : r.state ≡ 1) where
+module _ (r : Runner) (on : r.state ≡ Running) where
   -- It is what its own run has come to.
   self_resumed : resumed (going (run_in r)) r ≡ r
   unfolding resumed
@@ -54,7 +56,7 @@ module _ (r : Runner) (on : r.state ≡ 1) where
   over_ending (notice named) steps = refl
   over_ending spent steps = refl
 
-  total_steps : (e : Ending) (steps : ℕ) → (resumed (over e steps) r).total ≡ steps
+  total_steps : (e : Ending) (steps : ℕ) → total_in (resumed (over e steps) r) ≡ steps
   unfolding resumed ended_with
   total_steps e steps = refl
 
@@ -93,7 +95,7 @@ module _ (r : Runner) (on : r.state ≡ 1) where
 
   -- A run that goes on, and one that is over, after n boxes and then after m more.
   abbrev mode : Mode
-  mode = mode_of r.mode
+  mode = mode_held r
 
   abbrev inside : ℕ → Progress
   inside n = run (flow_in r) n (going (run_in r))
@@ -152,7 +154,7 @@ module _ (r : Runner) (on : r.state ≡ 1) where
   advanced_going : (m n : ℕ) (q : Run) → ran n r ≡ going q → outcome_by (Ok tt) (advance m) (resumed (going q) r) ≡ advanced (ran (n + m) r)
   unfolding outcome_by says after
   advanced_going m n q e =
-      ap (λ (k : ℕ). record { told = record { reply = progress_reply (mode_of k) (ran m (resumed (going q) r)); buffer = [] }; next = resumed (ran m (resumed (going q) r)) (resumed (going q) r) })
+      ap (λ (k : code.Mode). record { told = record { reply = progress_reply (mode_in k) (ran m (resumed (going q) r)); buffer = [] }; next = resumed (ran m (resumed (going q) r)) (resumed (going q) r) })
       (going_mode q)
       ∙ ap (λ (p : Progress). record { told = record { reply = progress_reply mode p; buffer = [] }; next = resumed p (resumed (going q) r) }) (ran_further m n q e)
       ∙ ap (λ (x : Runner). record { told = record { reply = progress_reply mode (ran (n + m) r); buffer = [] }; next = x }) (resumed_twice q (ran (n + m) r))

@@ -6,7 +6,7 @@ use mathlib.Core.Path.{◌≡◌, refl, ap, sym, ◌∙◌, subst}
 use mathlib.Core.List.{List}
 use native.Mathlib.Nat.{add_comm}
 use native.Mathlib.Omega.{arith}
-use Rattle.marks.specs.Marks.{surveillance, high_water, mode_of}
+use Rattle.marks.specs.Marks.{surveillance, high_water}
 use Rattle.begin.specs.Begin.{effective}
 use Rattle.begin.proofs.Begins.{effective_positive}
 use Rattle.machine.specs.Run.{valued, Progress, going, over, run}
@@ -41,7 +41,6 @@ surveyed_value c inputs allowed limit n boxes v steps h o =
     o.is ∙ sym here ∙ both
 
 pub answers_as_high_water : AnswersAsHighWater
-unfolding mode_of
 answers_as_high_water r r' made made' one inputs allowed limit limit' a a' limits v steps w ds qd =
     let p = begin_permits 2 inputs allowed limit r a in
     let p' = begin_permits 1 inputs allowed limit' r' a' in

@@ -22,7 +22,6 @@ use Rattle.call_claims.proofs.Continuing.{advance_does, advance_accepts, advance
 use Rattle.call_claims.proofs.RunLaws.{start, begun_is, reaches, over_ends, tells_whole_run}
 
 high_mode : (mode : ℕ) → mode ≡ 2 → mode_of mode ≡ high_water
-unfolding mode_of
 high_mode mode e = rw e
 
 high_hides : (mode : ℕ) → mode ≡ 2 → hides (mode_of mode) ≡ true

@@ -76,7 +76,6 @@ names_withheld r mode inputs allowed limit a cs q t m =
     subst (Carries P) o.1 (run_withheld (flowchart_in r) (mode_of mode) inputs allowed (effective limit) o.0))
 
 pub surveillance_names : SurveillanceNames
-unfolding mode_of
 surveillance_names r mode inputs allowed limit a cs q t m one named steps h =
     (told_names r mode inputs allowed limit a cs q t m (notice named) steps h).some (ap mode_of one) named refl
 

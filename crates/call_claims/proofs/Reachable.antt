@@ -11,7 +11,6 @@ use native.Mathlib.Omega.{arith}
 use lib.Bits.{or_lt}
 use lib.Pow.{pow_pos, pow-lt}
 use lib.ListN.{length, length-set}
-use borrow.Author.Tests.{eqb-true}
 use Rattle.boxes.specs.Bytes.{box_of}
 use Rattle.format.specs.File.{header_of, in_range, check_file}
 use Rattle.format.specs.declared.Header.{Header}
@@ -24,7 +23,7 @@ use Rattle.chart_claims.proofs.Rules.{obeys_rules, stays_in_range}
 use Rattle.chart_claims.proofs.Ruled.{ruled_is_loaded}
 use Rattle.chart_claims.proofs.Rewritten.{rewritten_is_ruled}
 use Rattle.decode.specs.Decode.{Box, flow}
-use Rattle.marks.specs.Marks.{Mode, mode_of, union, decision_notice, counter_mark, halt_notice}
+use Rattle.marks.specs.Marks.{Mode, mode_of, union, decision_notice, counter_mark, halt_notice, code_of}
 use Rattle.machine.specs.Act.{entry, entries, act_by, act}
 use Rattle.machine.specs.Run.{Run, Ending, valued, notice, spent, Progress, going, over, moved, goes_on, settle, step, run, named_in}
 use Rattle.machine.specs.declared.Act.TheVariants.{Go, Value}
@@ -34,8 +33,10 @@ use Rattle.begin.specs.Begin.{effective}
 use Rattle.begin.proofs.Begins.{effective_positive, effective_fits, length_vars, length_marks, marks_all}
 use Rattle.calls.specs.Calls.{Call, load, begin, advance, answer, abandon, write_back, rewrite, file_verdict, check}
 use Rattle.calls.proofs.Permits.{not_done, passed, permitted, advance_enough, rewrites_second}
+use Rattle.runner.specs.declared.State.TheVariants.{Running}
 use Rattle.runner.specs.declared.Runner.{Runner}
-use Rattle.runner.specs.State.{chart_in, flowchart_in, is_held, is_running, is_ended, standing_of, ending_in, run_in, with_run, under_way, idle, new_runner, ended_with, dropped, flow_in, ran, resumed}
+use Rattle.runner.proofs.States.{runs_in, mode_few}
+use Rattle.runner.specs.State.{chart_in, flowchart_in, is_held, is_running, is_ended, standing_of, ending_in, run_in, with_run, under_way, idle, new_runner, ended_with, dropped, flow_in, ran, resumed, mode_held, state_number, total_in}
 use Rattle.runs.specs.Whole.{start_of}
 use Rattle.runner.specs.Outcomes.{after, outcome_by, call}
 use Rattle.call_claims.specs.Lists.{Reached, fresh, then}
@@ -54,7 +55,7 @@ pub record Sound (r : Runner) : Type 0 where
   pub held : is_held r ≡ true → From r.header r.table
   pub rests : is_running r ≡ false → is_ended r ≡ false → r ≡ dropped r
   pub runs : is_running r ≡ true → UnderWay r
-  pub ends : is_ended r ≡ true → (is_held r ≡ true) × (r.state ≤ 4) × InputsOf r.header r.named × (r ≡ ended_with (ending_in r) r.total r)
+  pub ends : is_ended r ≡ true → (is_held r ≡ true) × (state_number r.state ≤ 4) × InputsOf r.header (named_in (ending_in r)) × (r ≡ ended_with (ending_in r) (total_in r) r)
 
 -- A runner without a run, and with an ended one.
 dropped_sound : (c : Chart) → (in_range c.header ≡ true → From c.header c.table) → Sound (idle c)
@@ -62,9 +63,9 @@ unfolding dropped
 dropped_sound c f =
     record { held = f; rests = λ e q. refl; runs = λ e. absurd (false≢true e); ends = λ e. absurd (false≢true e) }
 
-over_sound : (q : Runner) → From q.header q.table → is_held q ≡ true → is_ended q ≡ true → is_running q ≡ false → q.state ≤ 4
-    → InputsOf q.header q.named
-    → q ≡ ended_with (ending_in q) q.total q
+over_sound : (q : Runner) → From q.header q.table → is_held q ≡ true → is_ended q ≡ true → is_running q ≡ false → state_number q.state ≤ 4
+    → InputsOf q.header (named_in (ending_in q))
+    → q ≡ ended_with (ending_in q) (total_in q) q
     → Sound q
 over_sound q f h e n l i is =
     record { held = λ z. f; rests = λ z y. absurd (true≢false (sym e ∙ y)); runs = λ z. absurd (false≢true (sym n ∙ z)); ends = λ z. (h, l, i, is) }
@@ -76,7 +77,7 @@ ended_sound (valued v) steps r f h i = over_sound _ f h refl refl (omega arith) 
 ended_sound (notice named) steps r f h i = over_sound _ f h refl refl (omega arith) i refl
 ended_sound spent steps r f h i = over_sound _ f h refl refl (omega arith) i refl
 
-running_sound : (r : Runner) → r.state ≡ 1 → From r.header r.table → UnderWay r → Sound r
+running_sound : (r : Runner) → r.state ≡ Running → From r.header r.table → UnderWay r → Sound r
 running_sound r s f u =
     record {
       held = λ e. f;
@@ -121,7 +122,7 @@ module _ (h : Header) (table : List ℕ) (f : From h table) where
   run_ranged m q u = run_keeps (flow h.edition table) (Ranged h) step_ranged m (going q) u
 
 -- The runner that has come to it.
-resumed_sound : (r : Runner) → r.state ≡ 1 → From r.header r.table → UnderWay r → (p : Progress) → Ranged r.header p
+resumed_sound : (r : Runner) → r.state ≡ Running → From r.header r.table → UnderWay r → (p : Progress) → Ranged r.header p
     → Carries (InputsOf r.header) p
     → Sound (resumed p r)
 unfolding resumed
@@ -155,7 +156,7 @@ start_sound mode inputs allowed limit r e h =
     running_sound (under_way (chart_in r) mode (start_of (flowchart_in r) (mode_of mode) inputs allowed (effective limit))) refl f
     (record {
       held = p.held;
-      mode = p.known;
+      mode = mode_few (code_of mode);
       ranged =
           record {
             at = (stays_in_range f.file r.header f.checks).0.start;
@@ -175,9 +176,9 @@ advance_sound m r e h =
     let u = h.runs on in
     let f = h.held u.held in
     let k = r.header.inputs in
-    let mode = mode_of r.mode in
+    let mode = mode_held r in
     let come = run (flow_in r) m (going (run_in r)) in
-    resumed_sound r (eqb-true _ _ on) f u (ran m r)
+    resumed_sound r (runs_in _ on) f u (ran m r)
     (disclosed_by (Ranged r.header) mode come (run_ranged r.header r.table f m (run_in r) u.ranged) (λ z. tt))
     (disclosed_by (Carries (InputsOf r.header)) mode come
     (run_carries (InputsOf r.header) (pow_pos k) (or_lt k) (flow_in r) m (run_in r) u.sets) (λ z. pow_pos k))

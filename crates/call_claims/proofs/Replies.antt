@@ -7,7 +7,9 @@ use Rattle.block.specs.Refusing.{refusal}
 use Rattle.block.specs.declared.Refusal.{Refusal}
 use Rattle.runner.specs.declared.Loaded.{Loaded}
 use Rattle.runner.specs.declared.Advanced.TheVariants.{Running, Ended}
-use Rattle.runner.specs.declared.Answered.TheVariants.{Value, Notice, Spent}
+use Rattle.runner.specs.declared.Ending.{Ending}
+use Rattle.runner.specs.declared.Ending.TheVariants.{Value, Notice, Spent}
+use Rattle.runner.specs.State.{ending_of}
 use Rattle.runner.specs.Outcomes.{Reply, turned_away}
 use Rattle.runner.specs.Replies.{reply_by, progress_told, ending_told, load_reply, verdict_reply, advance_reply, answer_reply, written_reply}
 use Rattle.run_claims.proofs.Branches.{clash}
@@ -51,20 +53,28 @@ advance_once : Injective advance_reply
 unfolding advance_reply
 advance_once = told_once _ progress_once (elim [ Running s ↦ λ x e. clash cc | Ended s ↦ λ x e. clash cc ])
 
+-- The code's ending is told by the one of the rules.
+coded_once : (a b : Ending) → ending_of a ≡ ending_of b → a ≡ b
+coded_once (Value v) (Value w) e = cc
+coded_once (Value v) (Notice m) e = clash cc
+coded_once (Value v) Spent e = clash cc
+coded_once (Notice n) (Value w) e = clash cc
+coded_once (Notice n) (Notice m) e = cc
+coded_once (Notice n) Spent e = clash cc
+coded_once Spent (Value w) e = clash cc
+coded_once Spent (Notice m) e = clash cc
+coded_once Spent Spent e = refl
+
 ending_once : Injective ending_told
-ending_once (Value v s) (Value w t) e = cc
-ending_once (Value v s) (Notice m t) e = clash cc
-ending_once (Value v s) (Spent t) e = clash cc
-ending_once (Notice n s) (Value w t) e = clash cc
-ending_once (Notice n s) (Notice m t) e = cc
-ending_once (Notice n s) (Spent t) e = clash cc
-ending_once (Spent s) (Value w t) e = clash cc
-ending_once (Spent s) (Notice m t) e = clash cc
-ending_once (Spent s) (Spent t) e = cc
+ending_once a b e =
+    let ends : ending_of a.ending ≡ ending_of b.ending = cc in
+    let same = coded_once a.ending b.ending ends in
+    let steps : a.steps ≡ b.steps = cc in
+    ap (λ (x : Ending). record { ending = x; steps = a.steps }) same ∙ ap (λ (k : ℕ). record { ending = b.ending; steps = k }) steps
 
 answer_once : Injective answer_reply
 unfolding answer_reply
-answer_once = told_once _ ending_once (elim [ Value v s ↦ λ x e. clash cc | Notice n s ↦ λ x e. clash cc | Spent s ↦ λ x e. clash cc ])
+answer_once = told_once _ ending_once (λ a x e. clash cc)
 
 written_once : Injective written_reply
 unfolding written_reply

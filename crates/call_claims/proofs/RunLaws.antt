@@ -1,6 +1,6 @@
 -- The claims about runs and refusals, from the laws of a run and of the calls that only run boxes.
 -- Assumes nothing.
-use Rattle.std.specs.Prelude.{Ok, Err, Result, ⊤}
+use Rattle.std.specs.Prelude.{◌≢◌, Ok, Err, Result, ⊤}
 use Rattle.block.specs.declared.Refusal.{Refusal}
 use Prim.Native.Nat.{ℕ, ◌+◌, ◌-◌, ◌≤◌}
 use mathlib.Core.Path.{◌≡◌, refl, ap, sym, ◌∙◌, subst}
@@ -8,7 +8,6 @@ use mathlib.Core.List.{List}
 use mathlib.Core.Bool.{Bool, true, false, cond, false≢true}
 use native.Mathlib.Nat.{zero-add, add_comm}
 use native.Mathlib.Omega.{arith}
-use borrow.Author.Tests.{eqb-true}
 use Rattle.decode.specs.Decode.{Box}
 use Rattle.marks.specs.Marks.{Mode, bare, surveillance, high_water, mode_of, hides}
 use Rattle.machine.specs.Run.{Run, Ending, Progress, going, over, run}
@@ -16,8 +15,10 @@ use Rattle.runs.proofs.Disclosed.{disclosed_by, disclosed_all}
 use Rattle.begin.specs.Begin.{effective}
 use Rattle.begin.proofs.Begins.{effective_positive}
 use Rattle.calls.specs.Calls.{Call, load, begin, advance, answer, abandon, write_back, rewrite, check}
+use Rattle.runner.specs.declared.State.TheVariants.{Running}
 use Rattle.runner.specs.declared.Runner.{Runner}
-use Rattle.runner.specs.State.{chart_in, flowchart_in, is_running, least_in, standing_of, run_in, flow_in, ran, resumed}
+use Rattle.runner.proofs.States.{runs_in, number_back}
+use Rattle.runner.specs.State.{chart_in, flowchart_in, is_running, least_in, standing_of, run_in, flow_in, ran, resumed, mode_held}
 use Rattle.runs.specs.Whole.{finish, whole}
 use Rattle.runner.specs.Outcomes.{Reply, running, ended, refused, Outcome, lent, progress_reply, says, outcome_by, call}
 use Rattle.call_claims.specs.Lists.{Accepted, final}
@@ -35,7 +36,7 @@ unfolding says
 not_refused (load f) r n d e = clash cc
 not_refused (begin m i a l) r n d e = clash cc
 not_refused (advance m) r n d e =
-    progress_by (λ x. x ≡ refused n d → ⊥) (λ s z. clash cc) (λ s z. clash cc) (mode_of r.mode) (ran m r) e
+    progress_by (λ x. x ≡ refused n d → ⊥) (λ s z. clash cc) (λ s z. clash cc) (mode_held r) (ran m r) e
 not_refused answer r n d e = clash cc
 not_refused abandon r n d e = clash cc
 not_refused (write_back b) r n d e = clash cc
@@ -55,11 +56,11 @@ not_hidden bare n = refl
 not_hidden surveillance n = refl
 not_hidden high_water n = absurd (n refl)
 
-any_amount : (r : Runner) → NotHighWater r.mode → (m : ℕ) → least_in r ≤ m
-any_amount r n m = rw (not_hidden (mode_of r.mode) n) (omega arith)
+any_amount : (r : Runner) → mode_held r ≢ high_water → (m : ℕ) → least_in r ≤ m
+any_amount r n m = rw (not_hidden (mode_held r) n) (omega arith)
 
 -- An advance of a run under way, by enough.
-pub first_advance : (m : ℕ) (r : Runner) (on : r.state ≡ 1) → least_in r ≤ m → call (advance m) r ≡ advanced r on (ran m r)
+pub first_advance : (m : ℕ) (r : Runner) (on : r.state ≡ Running) → least_in r ≤ m → call (advance m) r ≡ advanced r on (ran m r)
 first_advance m r on enough =
     let here = from_start r on refl in
     let runs : is_running (resumed (ran 0 r) r) ≡ true = ap is_running (sym here) ∙ rw on in
@@ -76,12 +77,13 @@ advances_join r m p (n, e) = by (is_running r) refl
   where
     by : (b : Bool) → is_running r ≡ b → call (advance p) (call (advance m) r).next ≡ call (advance (m + p)) r
     by true q =
-        let on : r.state ≡ 1 = eqb-true _ _ q in
-        let first : (call (advance m) r).next ≡ resumed (ran m r) r = ap (λ (o : Outcome). o.next) (first_advance m r on (any_amount r n m)) in
+        let on : r.state ≡ Running = runs_in _ q in
+        let unhidden : mode_held r ≢ high_water = λ z. n (number_back r.mode ∙ z) in
+        let first : (call (advance m) r).next ≡ resumed (ran m r) r = ap (λ (o : Outcome). o.next) (first_advance m r on (any_amount r unhidden m)) in
         let runs : is_running (resumed (ran m r) r) ≡ true = subst (λ (x : Runner). is_running x ≡ true) first e in
         ap (call (advance p)) first
-        ∙ advance_does r on p m (advance_accepts r on p m runs (any_amount r n p))
-        ∙ sym (first_advance (m + p) r on (any_amount r n (m + p)))
+        ∙ advance_does r on p m (advance_accepts r on p m runs (any_amount r unhidden p))
+        ∙ sym (first_advance (m + p) r on (any_amount r unhidden (m + p)))
     by false q = absurd (false≢true (sym q ∙ ap is_running (sym (advance_refused m r q)) ∙ e))
 
 -- A run from its begin.
@@ -188,7 +190,7 @@ counts_boxes r mode inputs allowed limit a n m s =
     )
 
 -- A runner whose run is over answers.
-pub over_ends : (r : Runner) (on : r.state ≡ 1) {next : Runner} (p : Progress) → next ≡ resumed p r → Over p → Accepted answer next
+pub over_ends : (r : Runner) (on : r.state ≡ Running) {next : Runner} (p : Progress) → next ≡ resumed p r → Over p → Accepted answer next
 over_ends r on p is o = subst (Accepted answer) (sym (is ∙ ap (λ (x : Progress). resumed x r) o.is)) (over_answers r on o.ending o.steps)
 
 pub limit_ends : LimitEnds

@@ -10,7 +10,7 @@ use mathlib.Core.List.{List, [], ◌∷◌}
 use mathlib.Core.Bool.{true, false≢true}
 use native.Mathlib.Omega.{arith}
 use Rattle.chart.specs.WriteBack.{with_file}
-use Rattle.marks.specs.Marks.{Mode, surveillance, mode_of, hides}
+use Rattle.marks.specs.Marks.{Mode, surveillance, hides}
 use Rattle.machine.specs.Run.{Run, Progress, going, over, run}
 use Rattle.machine.proofs.Runs.{AsBegun, run_as_begun}
 use Rattle.runs.specs.Whole.{disclosed}
@@ -21,8 +21,9 @@ use Rattle.run_claims.proofs.Lost.{lost_hidden}
 use Rattle.run_claims.proofs.Low.{Agree, with_vars, Watched, surveyed, unmarked, Low, same_run, runs_apart, both_lost, run_low}
 use Rattle.calls.specs.Calls.{Call, load, begin, advance, answer, abandon, write_back, rewrite, check}
 use Rattle.calls.proofs.Permits.{advance_enough}
+use Rattle.runner.specs.declared.State.TheVariants.{Running}
 use Rattle.runner.specs.declared.Runner.{Runner}
-use Rattle.runner.specs.State.{least_in, standing_of, run_in, with_run, ended_with, dropped, flow_in, ran, resumed}
+use Rattle.runner.specs.State.{least_in, standing_of, run_in, with_run, ended_with, dropped, flow_in, ran, resumed, mode_held}
 use Rattle.runner.specs.Outcomes.{Reply, Outcome, Effect, runs, keeps, begins, drops, replaces, effect, after, progress_reply, says, lent_as, outcome_by, call}
 use Rattle.call_claims.specs.Lists.{tells}
 use Rattle.call_claims.proofs.Accepting.{no_answer, runs_accepted}
@@ -47,10 +48,10 @@ other_vars r w = with_run (with_vars (run_in r) w) r
 
 pub data LowEqual : Runner → Runner → Type 0 where
   same : {r : Runner} → LowEqual r r
-  apart : {r : Runner} {m : Mode} (w : List ℕ) → r.state ≡ 1 → Watched m (mode_of r.mode) r.counter → (hides m ≡ true → r.steps < r.limit) → Agree r.marks r.vars w
+  apart : {r : Runner} {m : Mode} (w : List ℕ) → r.state ≡ Running → Watched m (mode_held r) r.counter → (hides m ≡ true → r.steps < r.limit) → Agree r.marks r.vars w
       → LowEqual r (other_vars r w)
 
-resumed_low : (r : Runner) (w : List ℕ) → r.state ≡ 1 → {p p' : Progress} → AsBegun (run_in r) p → Close p p'
+resumed_low : (r : Runner) (w : List ℕ) → r.state ≡ Running → {p p' : Progress} → AsBegun (run_in r) p → Close p p'
     → LowEqual (resumed p r) (resumed p' (other_vars r w))
 unfolding resumed ended_with
 resumed_low r w s b (close {p = going q}) = same
@@ -67,7 +68,7 @@ unfolding progress_reply
 progress_close k close = refl
 progress_close k (still_apart w s h) = refl
 
-module _ (r : Runner) (w : List ℕ) (s : r.state ≡ 1) {m : Mode} (g : Watched m (mode_of r.mode) r.counter) (b : hides m ≡ true → r.steps < r.limit)
+module _ (r : Runner) (w : List ℕ) (s : r.state ≡ Running) {m : Mode} (g : Watched m (mode_held r) r.counter) (b : hides m ≡ true → r.steps < r.limit)
     (h : Agree r.marks r.vars w) where
   ran_close : (k : ℕ) → check (advance k) (standing_of r) ≡ Ok tt → Close (ran k r) (ran k (other_vars r w))
   ran_close k e = by g (run_low (flow_in r) k (runs_apart {q = run_in r} w g h)) b
@@ -75,13 +76,13 @@ module _ (r : Runner) (w : List ℕ) (s : r.state ≡ 1) {m : Mode} (g : Watched
       enough : least_in r ≤ k
       enough = (advance_enough k (standing_of r) e).1
 
-      in_mode_lem : {m : Mode} → mode_of r.mode ≡ m
+      in_mode_lem : {m : Mode} → mode_held r ≡ m
           → Close (disclosed m (run (flow_in r) k (going (run_in r)))) (disclosed m (run (flow_in r) k (going (with_vars (run_in r) w))))
           → Close (ran k r) (ran k (other_vars r w))
       in_mode_lem e c =
           subst (λ (x : Mode). Close (disclosed x (run (flow_in r) k (going (run_in r)))) (disclosed x (run (flow_in r) k (going (with_vars (run_in r) w))))) (sym e) c
 
-      by : {m : Mode} → Watched m (mode_of r.mode) r.counter
+      by : {m : Mode} → Watched m (mode_held r) r.counter
           → Low m (run (flow_in r) k (going (run_in r))) (run (flow_in r) k (going (with_vars (run_in r) w)))
           → (hides m ≡ true → r.steps < r.limit)
           → Close (ran k r) (ran k (other_vars r w))
@@ -95,14 +96,14 @@ module _ (r : Runner) (w : List ℕ) (s : r.state ≡ 1) {m : Mode} (g : Watched
   unfolding says
   says_low (load f) e = refl
   says_low (begin k i a l) e = refl
-  says_low (advance k) e = progress_close (mode_of r.mode) (ran_close k e)
+  says_low (advance k) e = progress_close (mode_held r) (ran_close k e)
   says_low answer e = absurd (no_answer r s e)
   says_low abandon e = refl
   says_low (write_back x) e = refl
   says_low rewrite e = refl
 
   ran_as_begun : (k : ℕ) → AsBegun (run_in r) (ran k r)
-  ran_as_begun k = disclosed_by (AsBegun (run_in r)) (mode_of r.mode) (run (flow_in r) k (going (run_in r))) (run_as_begun (flow_in r) k (run_in r)) (λ h. tt)
+  ran_as_begun k = disclosed_by (AsBegun (run_in r)) (mode_held r) (run (flow_in r) k (going (run_in r))) (run_as_begun (flow_in r) k (run_in r)) (λ h. tt)
 
   after_low : (x : Effect) → ((k : ℕ) → x ≡ runs k → Close (ran k r) (ran k (other_vars r w))) → LowEqual (after x r) (after x (other_vars r w))
   unfolding after dropped

@@ -9,7 +9,8 @@ use Rattle.chart_claims.specs.Bounds.{ChartBounds}
 use Rattle.begin.specs.Begin.{effective, has, allows}
 use Rattle.calls.specs.Calls.{Call, load, advance, answer, write_back}
 use Rattle.runner.specs.declared.Runner.{Runner}
-use Rattle.runner.specs.State.{is_held, is_running, is_ended}
+use Rattle.machine.specs.Run.{named_in}
+use Rattle.runner.specs.State.{is_held, is_running, is_ended, ending_in, state_number, mode_number}
 use Rattle.runner.specs.Outcomes.{ended, wrote, refused, Told, call}
 use Rattle.call_claims.specs.Lists.{Reached, Accepted, begun, tells, final, AllContinue, AllTold, Ends}
 use Rattle.call_claims.specs.Demand3.{tells_value, SomeAnswer}
@@ -58,7 +59,7 @@ HeldWithinBounds = (r : Runner) → Reached r → is_held r ≡ true → ChartBo
 -- A run under way: none of its numbers is the first one out of range.
 pub record UnderWayBounds (r : Runner) : Type 0 where
   pub at : r.at ≢ r.header.boxes
-  pub mode : r.mode ≢ 3
+  pub mode : mode_number r.mode ≢ 3
   pub below : r.steps ≢ r.limit
   pub limit : r.limit ≢ 65536
   pub sets : (v : ℕ) → get_or r.marks v 0 ≢ 2 ^ r.header.inputs
@@ -68,7 +69,7 @@ pub record UnderWayBounds (r : Runner) : Type 0 where
 abbrev pub StatesWithinBounds : Type 0
 StatesWithinBounds =
     ((r : Runner) → Reached r → is_running r ≡ true → UnderWayBounds r)
-    × ((r : Runner) → Reached r → is_ended r ≡ true → (r.state ≢ 5) × (r.named ≢ 2 ^ r.header.inputs))
+    × ((r : Runner) → Reached r → is_ended r ≡ true → (state_number r.state ≢ 5) × (named_in (ending_in r) ≢ 2 ^ r.header.inputs))
 
 -- No set told has a bit at k, or one of an input that is allowed.
 abbrev pub NamesWithinBounds : Type 0

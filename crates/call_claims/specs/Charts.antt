@@ -7,11 +7,11 @@ use Rattle.format.specs.File.{box_rule}
 use Rattle.format.specs.declared.Header.{Header}
 use Rattle.chart_claims.specs.Claims.{HeaderInRange, BoxInRange}
 use Rattle.decode.specs.Decode.{Box, assigns, decides, halts, flow}
-use Rattle.machine.specs.Run.{Run}
+use Rattle.machine.specs.Run.{Run, value_in, named_in}
 use Rattle.run_claims.specs.Sets.{AllSets}
 use Rattle.calls.specs.Calls.{Call, load, write_back}
 use Rattle.runner.specs.declared.Runner.{Runner}
-use Rattle.runner.specs.State.{is_held, is_running, is_ended, run_in, dropped}
+use Rattle.runner.specs.State.{is_held, is_running, is_ended, ending_in, total_in, state_number, mode_number, run_in, dropped}
 use Rattle.runner.specs.Outcomes.{chart, wrote, Effect, runs, keeps, begins, drops, replaces, effect, call}
 use Rattle.call_claims.specs.Lists.{Reached, Accepted, final, Along}
 
@@ -57,17 +57,17 @@ InputsOf h set = set < 2 ^ h.inputs
 -- never met.
 pub record UnderWay (r : Runner) : Type 0 where
   pub held : is_held r ≡ true
-  pub mode : r.mode ≤ 2
+  pub mode : mode_number r.mode ≤ 2
   pub ranged : RunInRange r.header (run_in r)
   pub sets : AllSets (InputsOf r.header) (run_in r)
-  pub forgot : (r.total ≡ 0) × (r.value ≡ 0) × (r.named ≡ 0)
+  pub forgot : (total_in r ≡ 0) × (value_in (ending_in r) ≡ 0) × (named_in (ending_in r) ≡ 0)
 
 abbrev pub RunsInRange : Type 0
 RunsInRange = (r : Runner) → Reached r → is_running r ≡ true → UnderWay r
 
 -- An ended run is of a held chart, has one of the three endings, and names inputs of that chart.
 abbrev pub EndsInRange : Type 0
-EndsInRange = (r : Runner) → Reached r → is_ended r ≡ true → (is_held r ≡ true) × (r.state ≤ 4) × InputsOf r.header r.named
+EndsInRange = (r : Runner) → Reached r → is_ended r ≡ true → (is_held r ≡ true) × (state_number r.state ≤ 4) × InputsOf r.header (named_in (ending_in r))
 
 -- What is asked of a call so that it keeps the chart: nothing, but where it puts another in its
 -- place.

@@ -1,5 +1,5 @@
 -- Lists of calls: "each call getting the runner that the last one handed back".
-use Rattle.std.specs.Prelude.{Ok, Err, ℕ, ◌+◌, ◌≡◌}
+use Rattle.std.specs.Prelude.{Ok, ℕ, ◌+◌, ◌≡◌}
 use mathlib.Core.List.{List, [], ◌∷◌, Memᴰ}
 use Rattle.calls.specs.Calls.{Call, begin, answer, check}
 use Rattle.runner.specs.declared.Runner.{Runner}

@@ -4,7 +4,7 @@ use Rattle.marks.specs.Marks.{high_water, mode_of}
 use Rattle.begin.specs.Begin.{effective}
 use Rattle.calls.specs.Calls.{Call, begin, advance, answer}
 use Rattle.runner.specs.declared.Runner.{Runner}
-use Rattle.runner.specs.State.{is_running, is_ended, ending_in, ended_with, dropped, flowchart_in}
+use Rattle.runner.specs.State.{is_running, is_ended, ending_in, total_in, mode_number, ended_with, dropped, flowchart_in}
 use Rattle.runs.specs.Whole.{whole}
 use Rattle.runner.specs.Outcomes.{Reply, done, chart, running, ended, ending, wrote, refused, lent, call}
 use Rattle.call_claims.specs.Lists.{Reached, Accepted, begun, final, Continued, AllTold, asked, Ends}
@@ -32,7 +32,7 @@ NotHighWater mode = mode_of mode ≢ high_water
 
 -- Of the definition this holds without a bound on m + p.
 abbrev pub AdvancesJoin : Type 0
-AdvancesJoin = AdvancesJoinWhere (λ r m. NotHighWater r.mode × NotEndedAfter r m)
+AdvancesJoin = AdvancesJoinWhere (λ r m. NotHighWater (mode_number r.mode) × NotEndedAfter r m)
 
 -- What holds of every run at its start: after each accepted begin, of its mode, the number that its
 -- limit means and the runner handed back.
@@ -104,4 +104,4 @@ abbrev pub Cleared : Type 0
 Cleared =
     (r : Runner)
     → Reached r
-    → (is_running r ≡ false → is_ended r ≡ false → r ≡ dropped r) × (is_ended r ≡ true → r ≡ ended_with (ending_in r) r.total r)
+    → (is_running r ≡ false → is_ended r ≡ false → r ≡ dropped r) × (is_ended r ≡ true → r ≡ ended_with (ending_in r) (total_in r) r)

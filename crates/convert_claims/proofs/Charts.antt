@@ -30,7 +30,7 @@ use Rattle.runs.specs.Whole.{disclosed, whole}
 use Rattle.calls.specs.Calls.{Call, load, begin, advance, answer, abandon, write_back, rewrite, check}
 use Rattle.calls.proofs.Permits.{rewrites_second}
 use Rattle.runner.specs.declared.Runner.{Runner}
-use Rattle.runner.specs.State.{flowchart_of, run_in, standing_of, runner_of, idle, ended_with, dropped, flow_in, ran, resumed}
+use Rattle.runner.specs.State.{flowchart_of, run_in, standing_of, runner_of, idle, ended_with, dropped, flow_in, ran, resumed, mode_held}
 use Rattle.runner.specs.Outcomes.{chart, Told, Outcome, says, after, outcome_by, call}
 use Rattle.call_claims.specs.Lists.{tells, Along}
 use Rattle.call_claims.proofs.ChartLaws.{load_does, loads_file}
@@ -76,7 +76,7 @@ abbrev recast : ℕ → Runner → Runner
 recast edition r =
     runner_of
     (record { header = record { edition = edition; inputs = r.header.inputs; boxes = r.header.boxes; first = r.header.first }; table = r.table })
-    r.mode (run_in r) r.state r.total r.value r.named
+    r.mode (run_in r) r.state
 
 -- Two runners that differ in nothing, or in the edition alone where that changes nothing of what
 -- the boxes do.
@@ -98,7 +98,7 @@ check_alike rewrite edition r hides = rw hides refl
 -- What a run comes to is the same.
 module _ (edition : ℕ) (r : Runner) (same : flow edition r.table ≡ flow_in r) where
   ran_alike : (m : ℕ) → ran m (recast edition r) ≡ ran m r
-  ran_alike m = ap (λ (fl : ℕ → Box). disclosed (mode_of r.mode) (run fl m (going (run_in r)))) same
+  ran_alike m = ap (λ (fl : ℕ → Box). disclosed (mode_held r) (run fl m (going (run_in r)))) same
 
   resumed_same : (p : Progress) → SameButEdition (resumed p r) (resumed p (recast edition r))
   unfolding resumed ended_with

@@ -45,7 +45,7 @@ unfolding decode box_from meaning read_by value_of_left count_trailing_zeros sum
 values_open = tt
 
 unfoldable pub marks_open : Unit {0}
-unfolding mode_of union
+unfolding union
 marks_open = tt
 
 unfoldable pub boxes_open : Unit {0}

@@ -6,7 +6,7 @@ use Rattle.rewrite.specs.Rewrite.{replaced_at}
 use Rattle.marks.specs.Marks.{bare, surveillance, high_water}
 use Rattle.begin.specs.Begin.{effective}
 use Rattle.calls.specs.Calls.{load, rewrite}
-use Rattle.runner.specs.State.{is_running}
+use Rattle.runner.specs.State.{is_running, mode_number}
 use Rattle.runner.specs.Outcomes.{call}
 use Rattle.rewrite_claims.specs.Rewriting.{FewerStepsBy}
 use Rattle.convert_claims.specs.Conversions.{OtherEdition, EndsAlikeWhere, TellsAlikeWhere}
@@ -51,7 +51,7 @@ SmallerLimitAnswersLess = AnswersAs 2 OneLess → ⊥
 -- "23: no run is under way (advance, abandon)": a second advance past the end is refused, where the
 -- one advance tells "ended".
 abbrev pub AdvancesPartAtTheEnd : Type 0
-AdvancesPartAtTheEnd = AdvancesJoinWhere (λ r m. NotHighWater r.mode × (is_running r ≡ true)) → ⊥
+AdvancesPartAtTheEnd = AdvancesJoinWhere (λ r m. NotHighWater (mode_number r.mode) × (is_running r ≡ true)) → ⊥
 
 -- 02, b, exempts high-water from three laws: joining advances, advances that add up to the limit,
 -- and the count that an advance tells. Chart E with limit 2 in this mode: two advances by 1 are

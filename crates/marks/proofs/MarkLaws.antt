@@ -11,14 +11,14 @@ use native.Mathlib.Omega.{arith}
 use lib.Bits.{bit_and, bit_or, or_add_and, or_comm, or_zero_l, or_zero_r, and_le_l, and_le_r, or_lt, and_mask, and_zero_r}
 use lib.Dec.{eqb}
 use borrow.Author.Tests.{eqb-true, eq-eqb, not-false}
-use Rattle.marks.specs.Marks.{Mode, bare, surveillance, high_water, mode_of, marked, union, by_mode, target_mark, set_mark, masks_of, set_by}
+use Rattle.marks.specs.declared.Mode.TheVariants.{Bare, Surveillance, HighWater}
+use Rattle.marks.specs.Marks.{Mode, bare, surveillance, high_water, mode_in, mode_of, marked, union, by_mode, target_mark, set_mark, masks_of, set_by}
 
 -- Number 1 alone is surveillance.
 pub mode_one : (n : ℕ) → mode_of n ≡ surveillance → n ≡ 1
-unfolding mode_of
 mode_one n e = on (eqb n 0) (eqb n 1) refl e
   where
-    on : (b c : Bool) → eqb n 1 ≡ c → cond b bare (cond c surveillance high_water) ≡ surveillance → n ≡ 1
+    on : (b c : Bool) → eqb n 1 ≡ c → mode_in (cond b Bare (cond c Surveillance HighWater)) ≡ surveillance → n ≡ 1
     on true c f d = let z : ◌≡◌ {A = ℕ} 0 1 = cc in absurd (omega arith)
     on false true f d = eqb-true n 1 f
     on false false f d = let z : ◌≡◌ {A = ℕ} 0 1 = cc in absurd (omega arith)

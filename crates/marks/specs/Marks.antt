@@ -12,15 +12,19 @@ pub data Mode : Type 0 where
   surveillance : Mode
   high_water : Mode
 
--- The mode of a number. No begin with a number above 2 is accepted; it would read as high-water.
-unfoldable pub mode_of : ℕ → Mode
-mode_of number = cond (eqb number 0) bare (cond (eqb number 1) surveillance high_water)
-
 -- The mode that the code is in.
 abbrev pub mode_in : code.Mode → Mode
 mode_in Bare = bare
 mode_in Surveillance = surveillance
 mode_in HighWater = high_water
+
+-- The mode of a number, as the code has it and as the rules do. No begin with a number above 2 is
+-- accepted; it would read as high-water.
+abbrev pub code_of : ℕ → code.Mode
+code_of number = cond (eqb number 0) Bare (cond (eqb number 1) Surveillance HighWater)
+
+abbrev pub mode_of : ℕ → Mode
+mode_of number = mode_in (code_of number)
 
 -- 02, a: "Each mark becomes a set of withheld inputs, empty exactly where 01 has no mark." So "The
 -- classes of the high-water mark are two".

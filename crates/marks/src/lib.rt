@@ -4,7 +4,7 @@
 #![tactic(auto)]
 
 ghost use Rattle.std.specs.Prelude.{◌≡◌};
-ghost use Rattle.marks.specs.Marks.{mode_of, mode_in, by_mode, masks_of, set_by, decision_notice, counter_mark, halt_notice, named_by, hides};
+ghost use Rattle.marks.specs.Marks.{code_of, mode_in, by_mode, masks_of, set_by, decision_notice, counter_mark, halt_notice, named_by, hides};
 
 #[derive(Clone, Copy, Debug, PartialEq, Eq)]
 pub enum Mode {
@@ -15,9 +15,8 @@ pub enum Mode {
 
 // The mode of a number.
 impl From<u8> for Mode {
-    ghost from_gives = { λ number mode. mode_in mode ≡ mode_of number };
+    ghost from_gives = { λ number mode. mode ≡ code_of number };
 
-    #[tactic(auto, unfolding(crate::specs::Marks::mode_of))]
     fn from(number: u8) -> Mode {
         match number {
             0 => Mode::Bare,

@@ -13,9 +13,8 @@ use Rattle.chart.specs.Chart.{table_of}
 use Rattle.chart.specs.WriteBack.{file_length, put_file}
 use Rattle.chart.proofs.Writes.{put_fits}
 use Rattle.rewrite.specs.Rewrite.{rewritten}
-use Rattle.marks.specs.Marks.{mode_of, mode_in}
+use Rattle.marks.specs.Marks.{code_of, mode_of}
 use Rattle.marks.specs.declared.Mode as code
-use Rattle.marks.specs.declared.Mode.TheVariants.{Bare, Surveillance, HighWater}
 use Rattle.machine.specs.Run.{Progress}
 use Rattle.begin.specs.Begin.{effective, first_vars, first_marks}
 use Rattle.calls.specs.Calls.{Call, refuse, file_verdict, check}
@@ -26,7 +25,7 @@ use Rattle.runner.specs.declared.Advanced.{Advanced}
 use Rattle.runner.specs.declared.Answered.{Answered}
 use Rattle.runner.specs.declared.State.{State}
 use Rattle.runner.specs.declared.State.TheVariants.{NoRun, Running, Ended}
-use Rattle.runner.specs.State.{chart_in, is_ended_in, is_running, is_ended, standing_of, code_of, mode_held, runner_of, idle, dropped, ran, resumed}
+use Rattle.runner.specs.State.{chart_in, is_ended_in, is_running, is_ended, standing_of, mode_held, runner_of, idle, dropped, ran, resumed}
 use Rattle.runner.specs.Outcomes.{outcome, after, progress_reply, says, outcome_by, call}
 use Rattle.runner.specs.Outcomes as outcomes
 use Rattle.runner.specs.Replies.{load_reply, verdict_reply, advance_reply, answer_reply, written_reply}
@@ -67,21 +66,15 @@ module _ (mode : ℕ) (inputs : List ℕ) (allowed limit : ℕ) (r : Runner) whe
   started_with vars marks l m =
       runner_of (chart_in r) m (record { vars = vars; marks = marks; counter = 0; mode = mode_of mode; at = r.header.first; limit = l; steps = 0 }) Running
 
-  -- The code's mode for one of the rules is the only one that is that one.
-  mode_once : (m : code.Mode) → mode_in m ≡ mode_of mode → m ≡ code_of (mode_of mode)
-  mode_once Bare e = ap code_of e
-  mode_once Surveillance e = ap code_of e
-  mode_once HighWater e = ap code_of e
-
   pub begin_accepts : (vars marks : List ℕ) (l : ℕ) (m : code.Mode) → Ok tt ≡ check (calls.begin mode inputs allowed limit) (standing_of r)
-      → vars ≡ first_vars inputs → marks ≡ first_marks allowed r.header.inputs → l ≡ effective limit → mode_in m ≡ mode_of mode
+      → vars ≡ first_vars inputs → marks ≡ first_marks allowed r.header.inputs → l ≡ effective limit → m ≡ code_of mode
       → outcome (verdict_reply (Ok tt)) [] (started_with vars marks l m) ≡ call (calls.begin mode inputs allowed limit) r
   unfolding verdict_reply outcome_by says after
   begin_accepts vars marks l m e ev em el ek =
       ap (λ (x : List ℕ). outcome outcomes.done [] (started_with x marks l m)) ev
       ∙ ap (λ (x : List ℕ). outcome outcomes.done [] (started_with (first_vars inputs) x l m)) em
       ∙ ap (λ (x : ℕ). outcome outcomes.done [] (started_with (first_vars inputs) (first_marks allowed r.header.inputs) x m)) el
-      ∙ ap (λ (x : code.Mode). outcome outcomes.done [] (started_with (first_vars inputs) (first_marks allowed r.header.inputs) (effective limit) x)) (mode_once m ek)
+      ∙ ap (λ (x : code.Mode). outcome outcomes.done [] (started_with (first_vars inputs) (first_marks allowed r.header.inputs) (effective limit) x)) ek
       ∙ by_verdict_lem (calls.begin mode inputs allowed limit) r (Ok tt) (sym e)
 
   pub begin_refuses : (v : Result ⊤ Refusal) (x : Refusal) → v ≡ check (calls.begin mode inputs allowed limit) (standing_of r) → v ≡ Err x

@@ -5,7 +5,7 @@ use Rattle.std.specs.Prelude.{ℕ, Bool, true, false, cond, replicate}
 use Rattle.format.specs.File.{in_range}
 use Rattle.chart.specs.Chart.{Chart}
 use Rattle.decode.specs.Decode.{Box, flow}
-use Rattle.marks.specs.Marks.{Mode, bare, surveillance, high_water, mode_of, mode_in, hides}
+use Rattle.marks.specs.Marks.{Mode, bare, code_of, mode_in, hides}
 use Rattle.marks.specs.declared.Mode as code
 use Rattle.marks.specs.declared.Mode.TheVariants.{Bare, Surveillance, HighWater}
 use Rattle.machine.specs.Run.{Run, Ending, valued, notice, spent, Progress, going, over, run}
@@ -43,12 +43,7 @@ is_running r = is_running_in r.state
 abbrev pub is_ended : Runner → Bool
 is_ended r = is_ended_in r.state
 
--- The mode of a runner, as the code has it and as the rules do.
-abbrev pub code_of : Mode → code.Mode
-code_of bare = Bare
-code_of surveillance = Surveillance
-code_of high_water = HighWater
-
+-- The mode of a runner.
 abbrev pub mode_held : Runner → Mode
 mode_held r = mode_in r.mode
 
@@ -144,7 +139,7 @@ no_run = record { vars = replicate 32 0; marks = replicate 32 0; counter = 0; mo
 
 -- A runner with a chart and a run under way, and with a chart and nothing else.
 abbrev pub under_way : Chart → (mode : ℕ) → Run → Runner
-under_way c mode q = runner_of c (code_of (mode_of mode)) q Running
+under_way c mode q = runner_of c (code_of mode) q Running
 
 abbrev pub idle : Chart → Runner
 idle c = runner_of c Bare no_run NoRun
