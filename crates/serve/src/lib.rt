@@ -3,7 +3,7 @@
 // cannot say.
 #![tactic(auto)]
 
-ghost use Rattle.std.specs.Prelude.{◌≡◌, ◌≤◌, length};
+ghost use Rattle.std.specs.Prelude.{◌≡◌, ◌≤◌, length, IfOk};
 ghost use Rattle.io.specs.Counts.{IsPrefixLen};
 ghost use Rattle.transcript.specs.Transcript.{read_of_file};
 
@@ -14,7 +14,7 @@ use std::rt::{Env, Files};
 use transcript::{Session, Wanted};
 
 // Writes a line to standard error: what failed, a colon and the system's word for it.
-fn fail(rt: &impl Eprint, what: &str, error: Error) {
+fn fail(rt: &impl Eprint, what: &str, error: &Error) {
     let _ = eprintln!(rt; "{what}: {error}");
 }
 
@@ -23,119 +23,82 @@ fn fail(rt: &impl Eprint, what: &str, error: Error) {
 pub fn read_chart(rt: &(impl Files + Eprint), buf: &mut [u8; 2561]) -> usize
     ensures { IsPrefixLen result buf.new }
 {
-    match std::fs::open(rt, "chart.bin") {
-        Ok(mut file) => read_file(rt, &mut file, buf),
-        Err(error) => {
-            fail(rt, "chart.bin", error);
-            0
-        }
-    }
+    read_file(rt, buf)
+        .inspect_err(|error| fail(rt, "chart.bin", error))
+        .unwrap_or(0)
 }
 
-// Reads until a buffer is full or the file ends; a read that fails counts as no bytes. The buffer
-// has as many bytes as are read of a chart file at most.
-fn read_file(rt: &impl Eprint, file: &mut impl Read, buf: &mut [u8]) -> usize
+// Reads until a buffer is full or the file ends. The buffer has as many bytes as are read of a
+// chart file at most. Kept: the loop counts, since no method of std fills an array as far as a file
+// goes: `read_exact` refuses a file that is shorter, and `read_to_end` needs a heap.
+fn read_file(rt: &impl Files, buf: &mut [u8]) -> Result<usize, Error>
     requires { length buf.old ≡ read_of_file }
-    ensures { IsPrefixLen result buf.new }
+    ensures { IfOk result (λ n. IsPrefixLen n buf.new) }
 {
-    let mut length: usize = 0;
+    let mut file = std::fs::open(rt, "chart.bin")?;
+    let mut length = 0;
     while length < buf.len() {
-        match file.read(&mut buf[length..]) {
-            Ok(more) => {
-                if more == 0 {
-                    break;
-                }
-                length += more;
-            }
-            Err(error) => {
-                fail(rt, "chart.bin", error);
-                return 0;
-            }
+        match file.read(&mut buf[length..])? {
+            0 => break,
+            more => length += more,
         }
     }
-    length
-}
-
-// Writes a text, and answers whether that was done.
-fn write(rt: &(impl Print + Eprint), text: &[u8]) -> bool {
-    match rt.write_all(text) {
-        Ok(()) => true,
-        Err(error) => {
-            fail(rt, "standard output", error);
-            false
-        }
-    }
+    Ok(length)
 }
 
 // Reads behind the bytes at hand.
 fn read(rt: &impl Eprint, input: &mut impl Read, session: Session, buffer: &mut [u8]) -> Session
     requires { session.end ≤ length buffer.old }
 {
-    let end = session.end;
-    let got = match input.read(&mut buffer[end..]) {
-        Ok(count) => count as isize,
-        Err(error) => {
-            fail(rt, "standard input", error);
-            -1
-        }
-    };
+    let got = input
+        .read(&mut buffer[session.end..])
+        .inspect_err(|error| fail(rt, "standard input", error))
+        .ok();
     transcript::received(session, got, buffer)
 }
 
 // Does what each turn wants, until one wants to stop or a write fails. An ending loop counts its
-// turns, from a number that no run uses up.
-fn serve(rt: &(impl Input + Print + Eprint), runner: Runner, buffer: &mut [u8], out: &mut [u8]) {
+// turns, up to a number that no run uses up.
+fn serve(
+    rt: &(impl Input + Print + Eprint),
+    runner: Runner,
+    buffer: &mut [u8],
+    out: &mut [u8],
+) -> Result<(), Error> {
     let mut input = rt.reader();
-    let mut session = Session {
-        count: 0,
-        at: 0,
-        end: 0,
-        over: false,
-    };
-    let mut turns = u64::MAX;
-    while 0 < turns {
-        turns -= 1;
+    let mut session = Session::default();
+    for _ in 0..u64::MAX {
         let turned = transcript::turn(runner, session, buffer, out);
-        let wanted = turned.wanted;
-        let length = turned.length;
         session = turned.session;
-        match wanted {
-            Wanted::Write => {
-                if !write(rt, &out[..length]) {
-                    return;
-                }
-            }
-            Wanted::Read => {
-                session = read(rt, &mut input, session, buffer);
-            }
-            Wanted::Stop => {
-                return;
-            }
+        match turned.wanted {
+            Wanted::Write(length) => rt.write_all(&out[..length])?,
+            Wanted::Read => session = read(rt, &mut input, session, buffer),
+            Wanted::Stop => break,
         }
     }
+    Ok(())
 }
 
-// Whether the command has words after it.
-fn has_words(rt: &impl Env) -> bool {
-    !matches!(rt.arg(1, &mut [0u8; 1]), Err(FillError::NotPresent))
-}
-
-pub fn run(rt: &(impl Env + Files + Input + Print + Eprint)) {
-    if has_words(rt) {
-        let _ = eprintln!(rt; "flowrun: words after the command are not taken");
-    }
+// Writes the transcript of chart.bin and standard input, as far as writes go.
+fn transcribe(rt: &(impl Files + Input + Print + Eprint)) -> Result<(), Error> {
     let mut file = [0u8; 2561];
     let length = read_chart(rt, &mut file);
     let mut texts = io::large_buffer();
-    let out: &mut [u8] = &mut texts;
-    let opened = reply::load_chart(Runner::new(), &file[..length], out);
-    let runner = opened.runner;
-    let size = opened.length;
-    if !write(rt, &out[..size]) {
-        return;
-    }
+    let opened = reply::load_chart(Runner::new(), &file[..length], &mut texts);
+    rt.write_all(&texts[..opened.length])?;
     if opened.loaded {
         let mut input = io::large_buffer();
-        serve(rt, runner, &mut input, out);
+        serve(rt, opened.runner, &mut input, &mut texts)?;
+    }
+    Ok(())
+}
+
+pub fn run(rt: &(impl Env + Files + Input + Print + Eprint)) {
+    let words = rt.arg(1, &mut [0u8; 1]);
+    if !matches!(words, Err(FillError::NotPresent)) {
+        let _ = eprintln!(rt; "flowrun: words after the command are not taken");
+    }
+    if let Err(error) = transcribe(rt) {
+        fail(rt, "standard output", &error);
     }
 }

@@ -3,5 +3,5 @@
 pub mod Lines
 pub mod Alike
 pub mod Portions
-pub mod Buffers
+pub mod Feeds
 pub mod States

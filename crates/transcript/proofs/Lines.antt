@@ -1,9 +1,10 @@
 -- Laws of the lines of some bytes, for lines that may lack their newline and for those that may
 -- not: the first line, by the place of the first newline (first_line, last_line_lem) and by what is
 -- known of the lines (peel), with bytes that come later. Assumes nothing.
-use Rattle.std.proofs.Common.{◌≡◌, ℕ, suc, ◌<◌, ◌≤◌, Bool, true, false, cond, eqb, List, [], ◌∷◌, ◌++◌, length, get_or, take, drop, sym, refl, ap, ◌∙◌, arith, drop-cons, drop_of_length-le}
-use borrow.Author.Tests.{eq-eqb, ne_eqb}
-use Rattle.transcript.specs.Lines.{prefixed, lines_in, lines_of, whole_lines, newline_at}
+use Rattle.std.proofs.Common.{◌≡◌, ℕ, suc, ◌+◌, ◌-◌, ◌<◌, ◌≤◌, ◌⊎◌, inl, inr, ltb, Some, None, not, Bool, true, false, cond, eqb, List, [], ◌∷◌, ◌++◌, length, take, drop, sym, refl, ap, ◌∙◌, arith, take_all, length-drop, one-add}
+use borrow.Author.Tests.{eqb-true, ltb-true, ltb-false}
+use Rattle.std.specs.List.{position_or_len, position}
+use Rattle.transcript.specs.Lines.{prefixed, lines_in, lines_of, whole_lines}
 
 pub clash : {A : Type 0} → ◌≡◌ {A = ℕ} 0 1 → A
 clash e = absurd (omega arith)
@@ -26,45 +27,68 @@ prefixed_last true b (c ∷ bytes) = refl
 prefixed_last false b [] = refl
 prefixed_last false b (c ∷ bytes) = refl
 
--- The first newline from a byte on, by that byte.
-pub newline_here : (bytes : List ℕ) (at : ℕ) → at < length bytes → get_or bytes at 0 ≡ 10 → newline_at (drop at bytes) ≡ 0
-unfolding newline_at
-newline_here bytes at l e = rw (drop-cons bytes at 0, eq-eqb (get_or bytes at 0) 10 e) refl
-
-pub newline_later : (bytes : List ℕ) (at : ℕ) → at < length bytes → (get_or bytes at 0 ≡ 10 → ⊥) → newline_at (drop at bytes) ≡ suc (newline_at (drop (suc at) bytes))
-unfolding newline_at
-newline_later bytes at l z = rw (drop-cons bytes at 0, ne_eqb (get_or bytes at 0) 10 z) refl
-
-pub newline_none : (bytes : List ℕ) (at : ℕ) → length bytes ≤ at → newline_at (drop at bytes) ≡ 0
-unfolding newline_at
-newline_none bytes at l = rw (drop_of_length-le bytes l) refl
+-- The place of the first newline of some bytes, and their number where there is none.
+abbrev pub newline_at : List ℕ → ℕ
+newline_at bytes = position_or_len (λ (b : ℕ). eqb b 10) bytes
 
 -- The line before the first newline.
-pub first_line : (e : Bool) (bytes : List ℕ) → newline_at bytes < length bytes
+first_line : (e : Bool) (bytes : List ℕ) → newline_at bytes < length bytes
     → lines_in e bytes ≡ take (newline_at bytes) bytes ∷ lines_in e (drop (suc (newline_at bytes)) bytes)
-unfolding lines_in newline_at
+unfolding lines_in
 first_line e [] l = absurd (omega arith)
 first_line e (b ∷ bytes) l = by (eqb b 10) l (first_line e bytes)
   where
     i : ℕ
     i = newline_at bytes
 
-    by : (t : Bool) → cond t 0 (suc i) < suc (length bytes)
+    by : (t : Bool) → cond (not t) (1 + i) 0 < suc (length bytes)
         → (i < length bytes → lines_in e bytes ≡ take i bytes ∷ lines_in e (drop (suc i) bytes))
-        → cond t ([] ∷ lines_in e bytes) (prefixed e b (lines_in e bytes)) ≡ take (cond t 0 (suc i)) (b ∷ bytes) ∷ lines_in e (drop (suc (cond t 0 (suc i))) (b ∷ bytes))
+        → cond t ([] ∷ lines_in e bytes) (prefixed e b (lines_in e bytes)) ≡ take (cond (not t) (1 + i) 0) (b ∷ bytes) ∷ lines_in e (drop (suc (cond (not t) (1 + i) 0)) (b ∷ bytes))
     by true l h = refl
-    by false l h = ap (prefixed e b) (h (omega arith)) ∙ prefixed_more e b (take i bytes) (lines_in e (drop (suc i) bytes))
+    by false l h = ap (prefixed e b) (h (omega arith)) ∙ prefixed_more e b (take i bytes) (lines_in e (drop (suc i) bytes)) ∙ rw (one-add i) refl
 
 -- Bytes without a newline.
-pub last_line_lem : (e : Bool) (bytes : List ℕ) → length bytes ≤ newline_at bytes → lines_in e bytes ≡ last_line e bytes
-unfolding lines_in last_line newline_at
-last_line_lem e [] l = refl
-last_line_lem e (b ∷ bytes) l = by (eqb b 10) l (last_line_lem e bytes)
+all_last : (e : Bool) (bytes : List ℕ) → length bytes ≤ newline_at bytes → lines_in e bytes ≡ last_line e bytes
+unfolding lines_in last_line
+all_last e [] l = refl
+all_last e (b ∷ bytes) l = by (eqb b 10) l (all_last e bytes)
   where
-    by : (t : Bool) → suc (length bytes) ≤ cond t 0 (suc (newline_at bytes)) → (length bytes ≤ newline_at bytes → lines_in e bytes ≡ last_line e bytes)
+    by : (t : Bool) → suc (length bytes) ≤ cond (not t) (1 + newline_at bytes) 0 → (length bytes ≤ newline_at bytes → lines_in e bytes ≡ last_line e bytes)
         → cond t ([] ∷ lines_in e bytes) (prefixed e b (lines_in e bytes)) ≡ last_line e (b ∷ bytes)
     by true l h = absurd (omega arith)
     by false l h = ap (prefixed e b) (h (omega arith)) ∙ prefixed_last e b bytes
+
+-- What a search for a newline says of the lines.
+pub lines_found : (e : Bool) (bytes : List ℕ) (i : ℕ) → position (λ (b : ℕ). eqb b 10) bytes ≡ Some i
+    → lines_in e bytes ≡ take i bytes ∷ lines_in e (take (length bytes - (i + 1)) (drop (i + 1) bytes))
+lines_found e bytes i q = by (ltb (newline_at bytes) (length bytes)) refl q
+  where
+    by : (t : Bool) → ltb (newline_at bytes) (length bytes) ≡ t → cond t (Some (newline_at bytes)) None ≡ Some i
+        → lines_in e bytes ≡ take i bytes ∷ lines_in e (take (length bytes - (i + 1)) (drop (i + 1) bytes))
+    by true l z =
+        let same : newline_at bytes ≡ i = cc in
+        let far : suc (newline_at bytes) ≡ i + 1 = omega arith in
+        first_line e bytes (ltb-true (newline_at bytes) (length bytes) l)
+        ∙ rw (far, same, take_all (length bytes - (i + 1)) (drop (i + 1) bytes) (omega (arith, length-drop (i + 1) bytes))) refl
+    by false l z = clash cc
+
+pub lines_not_found : (e : Bool) (bytes : List ℕ) → position (λ (b : ℕ). eqb b 10) bytes ≡ None → lines_in e bytes ≡ last_line e bytes
+lines_not_found e bytes q = by (ltb (newline_at bytes) (length bytes)) refl q
+  where
+    by : (t : Bool) → ltb (newline_at bytes) (length bytes) ≡ t → cond t (Some (newline_at bytes)) None ≡ None → lines_in e bytes ≡ last_line e bytes
+    by true l z = clash cc
+    by false l z = all_last e bytes (ltb-false (newline_at bytes) (length bytes) l)
+
+pub some_last : (bytes : List ℕ) → eqb (length bytes) 0 ≡ false → last_line true bytes ≡ bytes ∷ []
+unfolding last_line
+some_last [] z = clash cc
+some_last (b ∷ bytes) z = refl
+
+pub no_last : (e : Bool) (bytes : List ℕ) → (e ≡ false) ⊎ (eqb (length bytes) 0 ≡ true) → last_line e bytes ≡ []
+unfolding last_line
+no_last e [] w = refl
+no_last e (b ∷ bytes) (inl z) = rw z refl
+no_last e (b ∷ bytes) (inr z) = absurd (omega (arith, eqb-true (length (b ∷ bytes)) 0 z))
 
 -- What may come later: nothing, where the input is over.
 abbrev pub Later : (over e : Bool) (more : List ℕ) → Type 0

@@ -1,180 +1,130 @@
--- The state that a session stands for, where the ends of a buffer's part are kept within the
--- buffer: after a read, and after a turn. Assumes nothing.
-use Rattle.std.proofs.Common.{◌≡◌, ℕ, ◌+◌, ◌-◌, ◌<◌, ◌≤◌, min, true, false, List, [], ◌∷◌, ◌++◌, length, take, drop, ℤ, pos, negsuc, sym, refl, ap, ◌∙◌, arith, length-append, length-drop, length-take, drop-drop, take_at, take-add, ltb-true, le-ltb, lt-ltb}
-use mathlib.Core.Bool.{false≢true}
+-- The state that a session stands for: what is kept of its bytes, after a read, and after a turn.
+-- Assumes nothing.
+use Rattle.std.proofs.Common.{◌≡◌, ℕ, ◌+◌, ◌-◌, ◌<◌, min, Bool, true, false, Option, Some, None, List, [], ◌∷◌, ◌++◌, length, take, drop, sym, refl, ap, ◌∙◌, arith, length-drop, length-take, length-take-le, drop-drop, take_at, take-add, take-take, le-ltb, lt-ltb, append-nil, zero-add}
+use Rattle.std.proofs.lemmas.List.{drop_min, take_min}
 use native.Mathlib.Decide.{dec_lt}
 use lib.Seq.{drop-append-le}
-use lib.Signed.{lt_z}
-use Rattle.io.specs.Counts.{IsPrefixLen, clamp_len}
-use Rattle.lists.proofs.Parts.{take_min, drop_take}
-use Rattle.transcript.specs.Session.{Portion, feed, fed_of, clipped, turn, read, stop, wanted_of, session_state, received, after_read}
+use Rattle.std.specs.List.{copy_within}
+use Rattle.lists.proofs.Parts.{drop_take}
+use Rattle.transcript.specs.Session.{Portion, feed, fed_of, clipped, turn, wanted_of, session_state, IsWithin, received, failed, after_read}
 use Rattle.runner.specs.declared.Runner.{Runner}
 use Rattle.transcript.specs.declared.Session.{Session}
 use Rattle.transcript.specs.declared.Fed.{Fed}
 use Rattle.transcript.specs.declared.Wanted.TheVariants as wanted
-use Rattle.transcript.proofs.Buffers.{drop_min}
 use Rattle.transcript.proofs.Portions.{some_taken}
 
--- The bytes at hand.
-module _ (b : List ℕ) (s : Session) (end at : ℕ) (e : end ≡ min s.end (length b)) (a : at ≡ min s.at end) where
-  inside : end ≤ length b
-  inside = omega arith
+-- What is kept of a part of a buffer, and how it is moved.
+module _ (b : List ℕ) (at end e a n : ℕ) (he : e ≡ min end (length b)) (ha : a ≡ min at e) (hn : n ≡ min (e - a) 256) where
+  kept : clipped (drop at (take end b)) ≡ take n (drop a b)
+  kept =
+      let inside : take e b ≡ take end b = ap (λ (k : ℕ). take k b) he ∙ take_min end b in
+      let long : length (take e b) ≡ e = length-take-le e b (omega arith) in
+      let part : drop at (take end b) ≡ take (e - a) (drop a b)
+      = ap (drop at) (sym inside)
+      ∙ sym (drop_min at (take e b))
+      ∙ ap (λ (k : ℕ). drop k (take e b)) (ap (min at) long ∙ sym ha)
+      ∙ drop_take a e b in
+      let many : length (take (e - a) (drop a b)) ≡ e - a = length-take-le (e - a) (drop a b) (omega (arith, length-drop a b)) in
+      let few : min 256 (length (take (e - a) (drop a b))) ≡ n = omega arith in
+      ap clipped part
+      ∙ sym (take_min 256 (take (e - a) (drop a b)))
+      ∙ ap (λ (k : ℕ). take k (take (e - a) (drop a b))) few
+      ∙ take-take n (e - a) (drop a b) (omega arith)
 
-  pub at_hand : drop at (take end b) ≡ drop s.at (take s.end b)
-  at_hand =
-      let same : take end b ≡ take s.end b = ap (λ (n : ℕ). take n b) e ∙ take_min s.end b in
-      let long : length (take end b) ≡ end = omega (arith, length-take end b) in
-      ap (λ (n : ℕ). drop n (take end b)) (a ∙ ap (min s.at) (sym long))
-      ∙ drop_min s.at (take end b)
-      ∙ ap (drop s.at) same
+  pub kept_length : n ≡ length (clipped (drop at (take end b)))
+  kept_length = sym (ap length kept ∙ length-take-le n (drop a b) (omega (arith, length-drop a b)))
 
-  behind : drop end b ≡ drop s.end b
-  behind = ap (λ (n : ℕ). drop n b) e ∙ drop_min s.end b
+  pub kept_moved : copy_within b a (a + n) 0 ≡ clipped (drop at (take end b)) ++ drop n b
+  kept_moved =
+      let many : a + n - a ≡ n = omega arith in
+      rw (many, kept, zero-add n) refl
 
-  pub read_failed : (got : ℤ) → lt_z got (pos 0) ≡ true
-      → session_state (record { count = s.count; at = at; end = at; over = true }) b ≡ after_read got (drop s.end b) (session_state s b)
+-- A session whose part lies within the buffer, which stands for the same state as another.
+module _ {b : List ℕ} {s₀ s : Session} (h : IsWithin s₀ s b) where
+  -- After a read.
+  pub read_failed : (got : Option ℕ) → got ≡ None
+      → session_state (record { count = s.count; at = s.at; end = s.at; over = true }) b ≡ after_read got (drop s₀.end b) (session_state s₀ b)
   unfolding after_read
-  read_failed (pos k) l = absurd (omega (arith, ltb-true k 0 l))
-  read_failed (negsuc k) l =
-      let none : at - at ≡ 0 = omega arith in
-      ap (λ (x : List ℕ). record { count = s.count; bytes = x; over = true }) (drop_take at at b ∙ ap (λ (n : ℕ). take n (drop at b)) none)
+  read_failed got e =
+      let none : s.at - s.at ≡ 0 = omega arith in
+      rw e
+      (ap (λ (x : List ℕ). record { count = s.count; bytes = x; over = true }) (drop_take s.at s.at b ∙ ap (λ (n : ℕ). take n (drop s.at b)) none)
+      ∙ ap failed h.same)
 
-  -- A read that brought so many bytes behind them.
-  module _ (count k : ℕ) (c : count ≡ min k (length (take (length b - end) (drop end b)))) where
-    rest_long : length (take (length b - end) (drop end b)) ≡ length (drop end b)
-    rest_long = omega (arith, length-take (length b - end) (drop end b), length-drop end b)
+  -- It brought so many bytes behind those at hand.
+  module _ (got : Option ℕ) (k n : ℕ) (e : got ≡ Some k) (c : n ≡ min k (length b - s.end)) where
+    piece : take k (drop s₀.end b) ≡ take n (drop s.end b)
+    piece =
+        ap (take k) (sym h.behind)
+        ∙ sym (take_min k (drop s.end b))
+        ∙ ap (λ (m : ℕ). take m (drop s.end b)) (omega (arith, length-drop s.end b, h.in_bounds))
 
-    piece : take k (drop s.end b) ≡ take count (drop end b)
-    piece = ap (take k) (sym behind) ∙ sym (take_min k (drop end b)) ∙ ap (λ (n : ℕ). take n (drop end b)) (ap (min k) (sym rest_long) ∙ sym c)
+    longer : drop s.at (take (s.end + n) b) ≡ drop s.at (take s.end b) ++ take n (drop s.end b)
+    longer = ap (drop s.at) (take-add s.end n b) ∙ drop-append-le s.at (take s.end b) (take n (drop s.end b)) (omega (arith, length-take s.end b, h.ordered, h.in_bounds))
 
-    none : count ≡ 0 → session_state (record { count = s.count; at = at; end = end; over = true }) b ≡ received (take k (drop s.end b)) (session_state s b)
-    unfolding received
-    none z = rw (piece, z, at_hand) refl
-
-    longer : drop at (take (end + count) b) ≡ drop s.at (take s.end b) ++ take k (drop s.end b)
-    longer =
-        ap (drop at) (take-add end count b)
-        ∙ drop-append-le at (take end b) (take count (drop end b)) (omega (arith, length-take end b))
-        ∙ ap (λ (x : List ℕ). x ++ take count (drop end b)) at_hand
-        ∙ ap (λ (x : List ℕ). drop s.at (take s.end b) ++ x) (sym piece)
-
-    some : (count ≡ 0 → ⊥) → session_state (record { count = s.count; at = at; end = end + count; over = s.over }) b ≡ received (take k (drop s.end b)) (session_state s b)
-    unfolding received
-    some z = ap (λ (x : List ℕ). record { count = s.count; bytes = x; over = s.over }) longer ∙ by (take k (drop s.end b)) (ap length piece ∙ many)
+    pub read_some : (over : Bool) → (n ≡ 0 → over ≡ true) → ((n ≡ 0 → ⊥) → over ≡ s.over)
+        → session_state (record { count = s.count; at = s.at; end = s.end + n; over = over }) b ≡ after_read got (drop s₀.end b) (session_state s₀ b)
+    unfolding after_read received
+    read_some over z m = rw (e, piece, longer, ← h.same) (by (take n (drop s.end b)) (length-take-le n (drop s.end b) (omega (arith, length-drop s.end b, h.in_bounds))))
       where
-        many : length (take count (drop end b)) ≡ count
-        many = omega (arith, length-take count (drop end b), rest_long)
+        by : (x : List ℕ) → length x ≡ n → record { count = s.count; bytes = drop s.at (take s.end b) ++ x; over = over } ≡ received x (session_state s b)
+        by [] l = rw (z (sym l)) (simp append-nil)
+        by (y ∷ x) l = rw (m (λ q. absurd (omega arith))) refl
 
-        by : (x : List ℕ) → length x ≡ count → record { count = s.count; bytes = drop s.at (take s.end b) ++ x; over = s.over } ≡ received x (session_state s b)
-        by [] l = absurd (z (sym l))
-        by (y ∷ x) l = refl
+  -- The turn that it takes, by what was fed of the bytes at hand.
+  module _ (r : Runner) (out₀ out : List ℕ) (f : Fed) where
+    abbrev hand : List ℕ
+    hand = drop s.at (take s.end b)
 
-  module _ (got : ℤ) (l : lt_z got (pos 0) ≡ false) (count : ℕ) (c : count ≡ clamp_len got (length (take (length b - end) (drop end b)))) where
-    pub read_none : count ≡ 0 → session_state (record { count = s.count; at = at; end = end; over = true }) b ≡ after_read got (drop s.end b) (session_state s b)
-    unfolding after_read
-    read_none z = by got l c
-      where
-        by : (g : ℤ) → lt_z g (pos 0) ≡ false → count ≡ clamp_len g (length (take (length b - end) (drop end b)))
-            → session_state (record { count = s.count; at = at; end = end; over = true }) b ≡ after_read g (drop s.end b) (session_state s b)
-        by (pos k) q w = none count k w z
-        by (negsuc k) q w = absurd (false≢true (sym q))
+    abbrev lent : List ℕ
+    lent = take (s.end - s.at) (drop s.at b)
 
-    pub read_some : (count ≡ 0 → ⊥) → session_state (record { count = s.count; at = at; end = end + count; over = s.over }) b ≡ after_read got (drop s.end b) (session_state s b)
-    unfolding after_read
-    read_some z = by got l c
-      where
-        by : (g : ℤ) → lt_z g (pos 0) ≡ false → count ≡ clamp_len g (length (take (length b - end) (drop end b)))
-            → session_state (record { count = s.count; at = at; end = end + count; over = s.over }) b ≡ after_read g (drop s.end b) (session_state s b)
-        by (pos k) q w = some count k w z
-        by (negsuc k) q w = absurd (false≢true (sym q))
+    p : Portion
+    p = feed r (length out₀) s.count s.over hand
 
--- The turn that a session takes, by what was fed of the bytes at hand.
-module _ (r : Runner) (b out₀ out : List ℕ) (s : Session) (end at : ℕ) (e : end ≡ min s.end (length b)) (a : at ≡ min s.at end) (f : Fed) where
-  abbrev room : ℕ
-  room = length out₀
+    module _ (hf : f ≡ fed_of (feed r (length out₀) s.count s.over lent) (length lent)) (ho : out ≡ (feed r (length out₀) s.count s.over lent).text ++ drop f.length out₀) where
+      told : f ≡ fed_of p (length hand)
+      unfolding p
+      told = hf ∙ ap (λ (x : List ℕ). fed_of (feed r (length out₀) s.count s.over x) (length x)) (sym (drop_take s.at s.end b))
 
-  abbrev hand : List ℕ
-  hand = drop s.at (take s.end b)
+      taken_is : f.taken ≡ min p.taken (length hand)
+      taken_is = ap (λ (x : Fed). x.taken) told
 
-  lent : take (end - at) (drop at b) ≡ hand
-  lent = sym (drop_take at end b) ∙ at_hand b s end at e a
+      front_is : take f.length out ≡ p.text
+      unfolding p
+      front_is =
+          ap (take f.length) (ho ∙ ap (λ (x : List ℕ). (feed r (length out₀) s.count s.over x).text ++ drop f.length out₀) (sym (drop_take s.at s.end b)))
+          ∙ take_at p.text (drop f.length out₀) f.length (sym (ap (λ (x : Fed). x.length) told))
 
-  p : Portion
-  p = feed r room s.count s.over hand
+      pub turn_writes : 0 < f.taken
+          → wanted_of (wanted.Write f.length) out (session_state (record { count = f.count; at = s.at + f.taken; end = s.end; over = s.over }) b) ≡ turn r (length out₀) (session_state s₀ b)
+      unfolding turn wanted_of p
+      turn_writes l =
+          let some : 0 < p.taken = omega (arith, taken_is) in
+          let rest : drop (s.at + f.taken) (take s.end b) ≡ drop p.taken hand
+          = sym (drop-drop f.taken s.at (take s.end b))
+          ∙ ap (λ (n : ℕ). drop n hand) taken_is
+          ∙ drop_min p.taken hand in
+          rw (lt-ltb 0 p.taken some, front_is, rest, ap (λ (x : Fed). x.count) told) refl ∙ ap (turn r (length out₀)) h.same
 
-  -- What `feed` promises.
-  abbrev Promised : Type 0
-  Promised =
-      (f ≡ fed_of (feed r room s.count s.over (take (end - at) (drop at b))) (length (take (end - at) (drop at b))))
-      × (out ≡ (feed r room s.count s.over (take (end - at) (drop at b))).text ++ drop f.length out₀)
+      nothing : f.taken ≡ 0 → p.taken ≡ 0
+      unfolding p
+      nothing z = by (dec_lt 0 p.taken)
+        where
+          by : Dec (0 < p.taken) → p.taken ≡ 0
+          by (yes l) = absurd (omega (arith, taken_is, some_taken r (length out₀) s.count s.over hand l))
+          by (no l) = omega arith
 
-  module _ (h : Promised) where
-    told : f ≡ fed_of p (length hand)
-    unfolding p
-    told = h.0 ∙ ap (λ (x : List ℕ). fed_of (feed r room s.count s.over x) (length x)) lent
+      pub turn_stops : f.taken ≡ 0 → s.over ≡ true → wanted_of wanted.Stop out (session_state s b) ≡ turn r (length out₀) (session_state s₀ b)
+      unfolding turn wanted_of p
+      turn_stops z w =
+          let none : p.taken ≡ 0 = nothing z in
+          rw (le-ltb 0 p.taken (omega arith), w) refl ∙ ap (turn r (length out₀)) h.same
 
-    printed : out ≡ p.text ++ drop f.length out₀
-    unfolding p
-    printed = h.1 ∙ ap (λ (x : List ℕ). (feed r room s.count s.over x).text ++ drop f.length out₀) lent
-
-    length_is : f.length ≡ length p.text
-    length_is = ap (λ (x : Fed). x.length) told
-
-    taken_is : f.taken ≡ min p.taken (length hand)
-    taken_is = ap (λ (x : Fed). x.taken) told
-
-    front_is : take f.length out ≡ p.text
-    front_is = ap (take f.length) printed ∙ take_at p.text (drop f.length out₀) f.length (sym length_is)
-
-    hand_long : length hand ≡ end - at
-    hand_long = ap length (sym (at_hand b s end at e a)) ∙ omega (arith, length-drop at (take end b), length-take end b)
-
-    pub fits : at + f.taken ≤ length b
-    fits = omega (arith, taken_is, hand_long)
-
-    pub turn_writes : 0 < f.taken → length out ≡ length out₀
-        → (wanted_of wanted.Write (take f.length out) (session_state (record { count = f.count; at = at + f.taken; end = end; over = s.over }) b) ≡ turn r room (session_state s b))
-        × ((end ≤ length b) × IsPrefixLen f.length out)
-    unfolding turn wanted_of p
-    turn_writes l m =
-        let some : 0 < p.taken = omega (arith, taken_is) in
-        let rest : drop (at + f.taken) (take end b) ≡ drop p.taken hand
-        = sym (drop-drop f.taken at (take end b))
-        ∙ ap (drop f.taken) (at_hand b s end at e a)
-        ∙ ap (λ (n : ℕ). drop n hand) taken_is
-        ∙ drop_min p.taken hand in (
-          rw (lt-ltb 0 p.taken some, front_is, rest, ap (λ (x : Fed). x.count) told) refl,
-          (
-            omega arith,
-            (
-              omega (arith, ap length printed, length-append p.text (drop f.length out₀), length_is),
-              length_is ∙ ap length (sym front_is),
-            ),
-          ),
-        )
-
-    nothing : f.taken ≡ 0 → p.taken ≡ 0
-    unfolding p
-    nothing z = by (dec_lt 0 p.taken)
-      where
-        by : Dec (0 < p.taken) → p.taken ≡ 0
-        by (yes l) = absurd (omega (arith, taken_is, some_taken r room s.count s.over hand l))
-        by (no l) = omega arith
-
-    pub turn_stops : f.taken ≡ 0 → s.over ≡ true → (stop ≡ turn r room (session_state s b)) × ((end ≤ length b) × IsPrefixLen 0 out)
-    unfolding turn p
-    turn_stops z o =
-        let none : p.taken ≡ 0 = nothing z in
-        (rw (le-ltb 0 p.taken (omega arith), o) refl, (omega arith, (omega arith, refl)))
-
-    pub turn_reads : f.taken ≡ 0 → s.over ≡ false → (b' : List ℕ) (n : ℕ)
-        → (n ≡ length (clipped (drop at (take end b)))) × (b' ≡ clipped (drop at (take end b)) ++ drop n b)
-        → (read (session_state (record { count = s.count; at = 0; end = n; over = s.over }) b') ≡ turn r room (session_state s b)) × ((n ≤ length b') × IsPrefixLen 0 out)
-    unfolding turn p
-    turn_reads z o b' n k =
-        let none : p.taken ≡ 0 = nothing z in
-        let moved : take n b' ≡ clipped hand
-        = ap (take n) k.1 ∙ take_at (clipped (drop at (take end b))) (drop n b) n (sym k.0) ∙ ap clipped (at_hand b s end at e a) in (
-          rw (le-ltb 0 p.taken (omega arith), o, moved) refl,
-          (omega (arith, k.0, ap length k.1, length-append (clipped (drop at (take end b))) (drop n b)), (omega arith, refl)),
-        )
+      pub turn_reads : f.taken ≡ 0 → s.over ≡ false → (b' : List ℕ) (n : ℕ) → n ≡ length (clipped hand) → b' ≡ clipped hand ++ drop n b
+          → wanted_of wanted.Read out (session_state (record { count = s.count; at = 0; end = n; over = s.over }) b') ≡ turn r (length out₀) (session_state s₀ b)
+      unfolding turn wanted_of p
+      turn_reads z w b' n l k =
+          let none : p.taken ≡ 0 = nothing z in
+          let moved : take n b' ≡ clipped hand = ap (take n) k ∙ take_at (clipped hand) (drop n b) n (sym l) in
+          rw (le-ltb 0 p.taken (omega arith), w, moved) refl ∙ ap (turn r (length out₀)) h.same

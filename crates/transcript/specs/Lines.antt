@@ -1,6 +1,6 @@
 -- The lines of an input: "then a newline (the last may lack it)"; "nothing after the last newline
 -- is no line". A newline is byte 10.
-use Rattle.std.specs.Prelude.{ℕ, suc, Bool, true, false, cond, List, [], ◌∷◌, ◌==◌}
+use Rattle.std.specs.Prelude.{ℕ, Bool, true, false, cond, List, [], ◌∷◌, ◌==◌}
 
 -- A byte before the lines after it: the first of them goes on with it. Where there is none, it is
 -- the last line, if that may lack its newline.
@@ -20,8 +20,3 @@ lines_of bytes = lines_in true bytes
 
 abbrev pub whole_lines : List ℕ → List (List ℕ)
 whole_lines bytes = lines_in false bytes
-
--- The place of the first newline of some bytes, and their number where there is none.
-unfoldable pub newline_at : List ℕ → ℕ
-newline_at [] = 0
-newline_at (b ∷ bytes) = cond (b == 10) 0 (suc (newline_at bytes))

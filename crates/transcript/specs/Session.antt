@@ -1,6 +1,7 @@
 -- The run program between its reads and writes. A session goes by turns: each wants a text written,
 -- more input read, or to stop.
-use Rattle.std.specs.Prelude.{ℕ, suc, ◌+◌, ◌-◌, ◌%◌, ◌^◌, min, Bool, true, false, cond, List, [], ◌∷◌, ◌++◌, length, take, drop, ℤ, pos, negsuc, nat_lt}
+use Rattle.std.specs.Prelude.{◌≡◌, ℕ, suc, ◌+◌, ◌-◌, ◌%◌, ◌^◌, ◌≤◌, min, Bool, true, false, cond, List, [], ◌∷◌, ◌++◌, length, take, drop, nat_lt, Option, Some, None, ⊤}
+use Rattle.io.specs.Counts.{IsPrefixLen}
 use Rattle.runner.specs.declared.Runner.{Runner}
 use Rattle.reply.specs.Reply.{respond}
 use Rattle.transcript.specs.Lines.{lines_in}
@@ -79,16 +80,29 @@ failed s = record { count = s.count; bytes = []; over = true }
 abbrev pub session_state : Session → (buffer : List ℕ) → State
 session_state s buffer = record { count = s.count; bytes = drop s.at (take s.end buffer); over = s.over }
 
-unfoldable pub wanted_of : Wanted → (text : List ℕ) → State → Turn
-wanted_of wanted.Write text s = write text s
-wanted_of wanted.Read text s = read s
-wanted_of wanted.Stop text s = stop
+-- The same session, with the ends of its part within the buffer.
+pub record IsWithin (session within : Session) (buffer : List ℕ) : Type 0 where
+  pub same : session_state within buffer ≡ session_state session buffer
+  pub behind : drop within.end buffer ≡ drop session.end buffer
+  pub ordered : within.at ≤ within.end
+  pub in_bounds : within.end ≤ length buffer
+
+unfoldable pub wanted_of : Wanted → (out : List ℕ) → State → Turn
+wanted_of (wanted.Write length) out s = write (take length out) s
+wanted_of wanted.Read out s = read s
+wanted_of wanted.Stop out s = stop
 
 abbrev pub turn_of : Turned → (buffer out : List ℕ) → Turn
-turn_of t buffer out = wanted_of t.wanted (take t.length out) (session_state t.session buffer)
+turn_of t buffer out = wanted_of t.wanted out (session_state t.session buffer)
+
+-- A text that is wanted written is there.
+abbrev pub IsThere : Wanted → (out : List ℕ) → Type 0
+IsThere (wanted.Write length) out = IsPrefixLen length out
+IsThere wanted.Read out = ⊤
+IsThere wanted.Stop out = ⊤
 
 -- What the code makes of the answer of a read, which put its bytes behind those at hand: a count of
--- them, or a number below 0 where it failed.
-unfoldable pub after_read : ℤ → (behind : List ℕ) → State → State
-after_read (pos count) behind s = received (take count behind) s
-after_read (negsuc count) behind s = failed s
+-- them, or none where it failed.
+unfoldable pub after_read : Option ℕ → (behind : List ℕ) → State → State
+after_read (Some count) behind s = received (take count behind) s
+after_read None behind s = failed s

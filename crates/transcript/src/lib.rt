@@ -3,10 +3,9 @@
 // something written or read until it stops.
 #![tactic(auto)]
 
-ghost use Rattle.std.specs.Prelude.{◌≡◌, ◌≤◌, ◌+◌, ◌++◌, length, take, drop};
-ghost use Rattle.io.specs.Counts.{IsPrefixLen};
-ghost use Rattle.transcript.specs.Lines.{newline_at};
-ghost use Rattle.transcript.specs.Session.{feed, fed_of, clipped, turn, session_state, turn_of, after_read};
+ghost use Rattle.std.specs.Prelude.{◌≡◌, ◌≤◌, ◌+◌, [], ◌∷◌, ◌++◌, length, take, drop, MatchOption, IfSome};
+ghost use Rattle.transcript.specs.Lines.{lines_in};
+ghost use Rattle.transcript.specs.Session.{feed, fed_of, clipped, turn, session_state, IsWithin, turn_of, IsThere, after_read};
 
 use runner::Runner;
 
@@ -20,7 +19,7 @@ pub struct Fed {
 
 // Where a session stands: the number of lines answered, the bytes at hand, which are those of the
 // input's buffer from `at` to `end`, and whether the input is over.
-#[derive(Clone, Copy)]
+#[derive(Clone, Copy, Default)]
 pub struct Session {
     pub count: u64,
     pub at: usize,
@@ -28,35 +27,32 @@ pub struct Session {
     pub over: bool,
 }
 
+// What a turn wants: the text at the front of its buffer written, which has so many bytes, more
+// input read, or to stop.
 #[derive(Clone, Copy)]
 pub enum Wanted {
-    Write,
+    Write(usize),
     Read,
     Stop,
 }
 
-// What a turn wants, and the length of the text where one is to be written.
 #[derive(Clone, Copy)]
 pub struct Turned {
     pub session: Session,
     pub wanted: Wanted,
-    pub length: usize,
 }
 
-// The place of the first newline from `at` on, and the input's end where there is none.
-fn line_end(input: &[u8], at: usize) -> usize
-    requires { at ≤ length input.now }
-    ensures place { result ≡ at + newline_at (drop at input.now) }
-    ensures in_bounds { result ≤ length input.now }
+// The first line of some bytes and the bytes after it, where it can be answered: it has ended or,
+// where the input is over, it is the last.
+fn split_line(bytes: &[u8], over: bool) -> Option<(&[u8], &[u8])>
+    ensures line { MatchOption result (lines_in over bytes.now ≡ []) (λ cut. lines_in over bytes.now ≡ cut.0.now ∷ lines_in over cut.1.now) }
+    ensures rest { IfSome result (λ cut. cut.1.now ≡ drop (length cut.0.now + 1) bytes.now) }
 {
-    let mut end = at;
-    while end < input.len() {
-        if input[end] == b'\n' {
-            break;
-        }
-        end += 1;
+    match bytes.iter().position(|&b| b == b'\n') {
+        Some(end) => Some((&bytes[..end], &bytes[end + 1..])),
+        None if over && !bytes.is_empty() => Some((bytes, &[])),
+        None => None,
     }
-    end
 }
 
 // Answers the lines that end in the input and, where the input is over, its last line, at the front
@@ -66,26 +62,19 @@ pub fn feed(runner: Runner, lines: u64, over: bool, input: &[u8], out: &mut [u8]
     ensures out_after { out.new ≡ (feed runner (length out.old) lines over input.now).text ++ drop result.length out.old }
 {
     let mut count = lines;
-    let mut at: usize = 0;
+    let mut left = input;
     let mut length: usize = 0;
-    while at < input.len() {
-        let end = line_end(input, at);
-        if end == input.len() {
-            if !over {
-                break;
-            }
-        }
+    while let Some((line, rest)) = split_line(left, over) {
         if out.len() - length < 64 {
             break;
         }
         count = count.wrapping_add(1);
-        let size = reply::respond(runner, count, &input[at..end], &mut out[length..]);
-        length = length + size;
-        at = widen::lesser(end + 1, input.len());
+        length += reply::respond(runner, count, line, &mut out[length..]);
+        left = rest;
     }
     Fed {
         count,
-        taken: at,
+        taken: input.len() - left.len(),
         length,
     }
 }
@@ -96,99 +85,84 @@ pub fn keep(at: usize, end: usize, buffer: &mut [u8]) -> usize
     ensures value { result ≡ length (clipped (drop at (take end buffer.old))) }
     ensures buffer_after { buffer.new ≡ clipped (drop at (take end buffer.old)) ++ drop result buffer.old }
 {
-    let last = widen::lesser(end, buffer.len());
-    let mut count: usize = 0;
-    let mut from = at;
-    while from < last {
-        if count == 256 {
-            break;
-        }
-        let b = buffer[from];
-        buffer[count] = b;
-        count += 1;
-        from += 1;
-    }
+    let end = end.min(buffer.len());
+    let at = at.min(end);
+    let count = (end - at).min(256);
+    buffer.copy_within(at..at + count, 0);
     count
+}
+
+impl Session {
+    // The session with the ends of its part kept within a buffer.
+    fn within(self, buffer: &[u8]) -> Session
+        ensures { IsWithin self result buffer.now }
+    {
+        let end = self.end.min(buffer.len());
+        let at = self.at.min(end);
+        Session { at, end, ..self }
+    }
 }
 
 // A turn of a session, with the input's buffer and one for texts.
 pub fn turn(runner: Runner, session: Session, buffer: &mut [u8], out: &mut [u8]) -> Turned
     ensures turned { turn_of result buffer.new out.new ≡ turn runner (length out.old) (session_state session buffer.old) }
     ensures end_in_bounds { result.session.end ≤ length buffer.new }
-    ensures prefix_len { IsPrefixLen result.length out.new }
+    ensures prefix_len { IsThere result.wanted out.new }
 {
-    let end = widen::lesser(session.end, buffer.len());
-    let at = widen::lesser(session.at, end);
-    let count = session.count;
-    let over = session.over;
+    let session = session.within(buffer);
+    let Session {
+        count,
+        at,
+        end,
+        over,
+    } = session;
     let fed = feed(runner, count, over, &buffer[at..end], out);
-    let taken = fed.taken;
-    if 0 < taken {
-        let next = at + taken;
+    if 0 < fed.taken {
         return Turned {
             session: Session {
                 count: fed.count,
-                at: next,
-                end,
-                over,
+                at: at + fed.taken,
+                ..session
             },
-            wanted: Wanted::Write,
-            length: fed.length,
+            wanted: Wanted::Write(fed.length),
         };
     }
     if over {
         return Turned {
-            session: Session {
-                count,
-                at,
-                end,
-                over,
-            },
+            session,
             wanted: Wanted::Stop,
-            length: 0,
         };
     }
     let kept = keep(at, end, buffer);
     Turned {
         session: Session {
-            count,
             at: 0,
             end: kept,
-            over,
+            ..session
         },
         wanted: Wanted::Read,
-        length: 0,
     }
 }
 
-// The session after a read that answered `got` and put its bytes behind those at hand.
-pub fn received(session: Session, got: isize, buffer: &[u8]) -> Session
+// The session after a read, which put so many bytes behind those at hand or, where there is no
+// number, failed.
+pub fn received(session: Session, got: Option<usize>, buffer: &[u8]) -> Session
     ensures { session_state result buffer.now ≡ after_read got (drop session.end buffer.now) (session_state session buffer.now) }
 {
-    let end = widen::lesser(session.end, buffer.len());
-    let at = widen::lesser(session.at, end);
-    let over = session.over;
-    if got < 0 {
-        return Session {
-            count: session.count,
-            at,
-            end: at,
+    let session = session.within(buffer);
+    match got {
+        Some(count) => {
+            let count = count.min(buffer.len() - session.end);
+            Session {
+                end: session.end + count,
+                over: session.over || count == 0,
+                ..session
+            }
+        }
+        None => Session {
+            end: session.at,
             over: true,
-        };
-    }
-    let count = io::count(got, &buffer[end..]);
-    if count == 0 {
-        return Session {
-            count: session.count,
-            at,
-            end,
-            over: true,
-        };
-    }
-    Session {
-        count: session.count,
-        at,
-        end: end + count,
-        over,
+            ..session
+        },
     }
 }
