@@ -14,7 +14,7 @@ use Rattle.transcript.specs.Lines.{lines_in, lines_of, whole_lines}
 use Rattle.transcript.specs.Transcript.{answers, chart_line, is_chart, holder, transcript}
 use Rattle.transcript.specs.Session.{Portion, portion, feed, State, Turn, write, read, stop, clipped, turn, received}
 use Rattle.program_claims.specs.SessionClaims.{Input, going, ended, broken, Done, start, writes, reads, ends, fails, Fits, WritesTranscript, AnswersFirst, BeginsTranscript, WritesEnd}
-use Rattle.transcript.proofs.Lines.{clash, Later, fewer_whole}
+use Rattle.transcript.proofs.Lines.{Later, fewer_whole}
 use Rattle.transcript.proofs.Alike.{counted, counted_is, counted_kept}
 use Rattle.transcript.proofs.Portions.{goes_on_lem, takes, some_taken}
 
@@ -38,16 +38,16 @@ module _ (r : Runner) (room : ℕ) (s : State) where
     where
       by : (t : Bool) → ltb 0 p.taken ≡ t → (o : Bool) → chosen t o ≡ write text s' → (0 < p.taken) × (text ≡ p.text) × (s' ≡ went)
       by true q o z = (ltb-true 0 p.taken q, cc, cc)
-      by false q true z = clash cc
-      by false q false z = clash cc
+      by false q true z = cc
+      by false q false z = cc
 
   waited : (s' : State) → turn r room s ≡ read s' → (p.taken ≡ 0) × (s.over ≡ false) × (s' ≡ waits)
   unfolding turn p chosen
   waited s' e = by (ltb 0 p.taken) refl s.over refl e
     where
       by : (t : Bool) → ltb 0 p.taken ≡ t → (o : Bool) → s.over ≡ o → chosen t o ≡ read s' → (p.taken ≡ 0) × (s.over ≡ false) × (s' ≡ waits)
-      by true q o w z = clash cc
-      by false q true w z = clash cc
+      by true q o w z = cc
+      by false q true w z = cc
       by false q false w z = (omega (arith, ltb-false 0 p.taken q), w, cc)
 
   stopped : turn r room s ≡ stop → (p.taken ≡ 0) × (s.over ≡ true)
@@ -55,9 +55,9 @@ module _ (r : Runner) (room : ℕ) (s : State) where
   stopped e = by (ltb 0 p.taken) refl s.over refl e
     where
       by : (t : Bool) → ltb 0 p.taken ≡ t → (o : Bool) → s.over ≡ o → chosen t o ≡ stop → (p.taken ≡ 0) × (s.over ≡ true)
-      by true q o w z = clash cc
+      by true q o w z = cc
       by false q true w z = (omega (arith, ltb-false 0 p.taken q), w)
-      by false q false w z = clash cc
+      by false q false w z = cc
 
   -- Nothing was taken, so nothing is left to answer.
   idle : 64 ≤ room → p.taken ≡ 0 → lines_in s.over s.bytes ≡ []

@@ -9,7 +9,7 @@ use Rattle.reply.specs.Reply.{respond}
 use Rattle.transcript.specs.Lines.{prefixed, lines_in, whole_lines}
 use Rattle.transcript.specs.Transcript.{answers}
 use Rattle.transcript.specs.Session.{following, clipped}
-use Rattle.transcript.proofs.Lines.{clash, last_line}
+use Rattle.transcript.proofs.Lines.{last_line}
 
 unfoldable pub counted : Runner → ℕ → List (List ℕ) → List ℕ
 counted r count [] = []
@@ -45,7 +45,7 @@ attached_prefixed false b u (line ∷ lines) = refl
 none_prefixed : (b : ℕ) (lines : List (List ℕ)) → prefixed false b lines ≡ [] → lines ≡ []
 unfolding prefixed
 none_prefixed b [] q = refl
-none_prefixed b (line ∷ lines) q = clash cc
+none_prefixed b (line ∷ lines) q = cc
 
 lines_attached : (e : Bool) (u more : List ℕ) → whole_lines u ≡ [] → lines_in e (u ++ more) ≡ attached e u (lines_in e more)
 unfolding lines_in
@@ -54,7 +54,7 @@ lines_attached e (b ∷ u) more w = by (eqb b 10) w (lines_attached e u more)
   where
     by : (t : Bool) → cond t ([] ∷ whole_lines u) (prefixed false b (whole_lines u)) ≡ [] → (whole_lines u ≡ [] → lines_in e (u ++ more) ≡ attached e u (lines_in e more))
         → cond t ([] ∷ lines_in e (u ++ more)) (prefixed e b (lines_in e (u ++ more))) ≡ attached e (b ∷ u) (lines_in e more)
-    by true q h = clash cc
+    by true q h = cc
     by false q h = ap (prefixed e b) (h (none_prefixed b (whole_lines u) q)) ∙ attached_prefixed e b u (lines_in e more)
 
 -- The first bytes of a line that has not ended have no newline.
@@ -66,7 +66,7 @@ first_bytes (suc n) (b ∷ u) w = by (eqb b 10) w (first_bytes n u)
   where
     by : (t : Bool) → cond t ([] ∷ whole_lines u) (prefixed false b (whole_lines u)) ≡ [] → (whole_lines u ≡ [] → whole_lines (take n u) ≡ [])
         → cond t ([] ∷ whole_lines (take n u)) (prefixed false b (whole_lines (take n u))) ≡ []
-    by true q h = clash cc
+    by true q h = cc
     by false q h = ap (prefixed false b) (h (none_prefixed b (whole_lines u) q))
 
 -- A line is read by its first 256 bytes.

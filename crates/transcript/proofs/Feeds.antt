@@ -8,7 +8,6 @@ use Rattle.runner.specs.declared.Runner.{Runner}
 use Rattle.reply.specs.Reply.{respond}
 use Rattle.transcript.specs.Lines.{lines_in}
 use Rattle.transcript.specs.Session.{following, Portion, none, onto, portion, feed, fed_of}
-use Rattle.transcript.proofs.Lines.{clash}
 
 module _ (r : Runner) (lines : ℕ) (over : Bool) (input out₀ : List ℕ) where
   unfoldable pub all : Portion
@@ -77,7 +76,7 @@ module _ (r : Runner) (lines : ℕ) (over : Bool) (input out₀ : List ℕ) wher
       shorter = by left first cut
         where
           by : (l : List ℕ) → lines_in over l ≡ line ∷ lines_in over next → next ≡ drop (length line + 1) l → length next < length l
-          by [] f e = clash cc
+          by [] f e = cc
           by (b ∷ l) f e = omega (arith, ap length e, length-drop (length line + 1) (b ∷ l))
 
       -- The text has room, and so has what is left after it.

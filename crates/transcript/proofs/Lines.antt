@@ -6,9 +6,6 @@ use borrow.Author.Tests.{eqb-true, ltb-true, ltb-false}
 use Rattle.std.specs.List.{position_or_len, position}
 use Rattle.transcript.specs.Lines.{prefixed, lines_in, lines_of, whole_lines}
 
-pub clash : {A : Type 0} → ◌≡◌ {A = ℕ} 0 1 → A
-clash e = absurd (omega arith)
-
 -- The last line, which lacks its newline, where there is a byte of it.
 unfoldable pub last_line : Bool → List ℕ → List (List ℕ)
 last_line lacking [] = []
@@ -70,18 +67,18 @@ lines_found e bytes i q = by (ltb (newline_at bytes) (length bytes)) refl q
         let far : suc (newline_at bytes) ≡ i + 1 = omega arith in
         first_line e bytes (ltb-true (newline_at bytes) (length bytes) l)
         ∙ rw (far, same, take_all (length bytes - (i + 1)) (drop (i + 1) bytes) (omega (arith, length-drop (i + 1) bytes))) refl
-    by false l z = clash cc
+    by false l z = cc
 
 pub lines_not_found : (e : Bool) (bytes : List ℕ) → position (λ (b : ℕ). eqb b 10) bytes ≡ None → lines_in e bytes ≡ last_line e bytes
 lines_not_found e bytes q = by (ltb (newline_at bytes) (length bytes)) refl q
   where
     by : (t : Bool) → ltb (newline_at bytes) (length bytes) ≡ t → cond t (Some (newline_at bytes)) None ≡ None → lines_in e bytes ≡ last_line e bytes
-    by true l z = clash cc
+    by true l z = cc
     by false l z = all_last e bytes (ltb-false (newline_at bytes) (length bytes) l)
 
 pub some_last : (bytes : List ℕ) → eqb (length bytes) 0 ≡ false → last_line true bytes ≡ bytes ∷ []
 unfolding last_line
-some_last [] z = clash cc
+some_last [] z = cc
 some_last (b ∷ bytes) z = refl
 
 pub no_last : (e : Bool) (bytes : List ℕ) → (e ≡ false) ⊎ (eqb (length bytes) 0 ≡ true) → last_line e bytes ≡ []
@@ -100,16 +97,16 @@ no_bytes [] e = refl
 no_bytes (b ∷ bytes) e = by (eqb b 10) (lines_in true bytes) e
   where
     by : (t : Bool) (lines : List (List ℕ)) → cond t ([] ∷ lines) (prefixed true b lines) ≡ [] → b ∷ bytes ≡ []
-    by true lines q = clash cc
-    by false [] q = clash cc
-    by false (line ∷ lines) q = clash cc
+    by true lines q = cc
+    by false [] q = cc
+    by false (line ∷ lines) q = cc
 
 -- The first line of some bytes is that of them and of what comes later, and leaves the bytes after
 -- it.
 pub peel : (over e : Bool) (bytes more line : List ℕ) (lines : List (List ℕ)) → Later over e more → lines_in over bytes ≡ line ∷ lines
     → lines_in e (bytes ++ more) ≡ line ∷ lines_in e (drop (suc (length line)) bytes ++ more)
 unfolding lines_in prefixed
-peel over e [] more line lines f w = clash cc
+peel over e [] more line lines f w = cc
 peel over e (b ∷ bytes) more line lines f w = by (eqb b 10) w (λ l ls z. peel over e bytes more l ls f z)
   where
     Goal : Bool → Type 0
@@ -127,7 +124,7 @@ peel over e (b ∷ bytes) more line lines f w = by (eqb b 10) w (λ l ls z. peel
         let z' : lines_in true bytes ≡ [] = ap (λ (x : Bool). lines_in x bytes) (sym o) ∙ z in
         let same : line ≡ b ∷ [] = cc in
         rw (no_bytes bytes z', (f o).1, (f o).0, same) refl
-    last false o z q = clash cc
+    last false o z q = cc
 
     other : (ls : List (List ℕ)) → lines_in over bytes ≡ ls → prefixed over b ls ≡ line ∷ lines
         → ((l : List ℕ) (more-lines : List (List ℕ)) → lines_in over bytes ≡ l ∷ more-lines → lines_in e (bytes ++ more) ≡ l ∷ lines_in e (drop (suc (length l)) bytes ++ more))
