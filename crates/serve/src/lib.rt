@@ -18,8 +18,9 @@ fn fail(rt: &impl Eprint, what: &str, error: &Error) {
     let _ = eprintln!(rt; "{what}: {error}");
 }
 
-// Reads chart.bin to the front of a buffer, and answers how many bytes: none where it cannot be
-// read. There is no equation, since no contract can say what the file holds.
+// Reads chart.bin to the front of a buffer, and answers how many bytes. There is no equation, since
+// no contract can say what the file holds. Kept: 0 where it cannot be read, since "a missing file
+// counts as length 0", and a number, as a read of std answers, by the clause below.
 pub fn read_chart(rt: &(impl Files + Eprint), buf: &mut [u8; 2561]) -> usize
     ensures { IsPrefixLen result buf.new }
 {
@@ -29,8 +30,8 @@ pub fn read_chart(rt: &(impl Files + Eprint), buf: &mut [u8; 2561]) -> usize
 }
 
 // Reads until a buffer is full or the file ends. The buffer has as many bytes as are read of a
-// chart file at most. Kept: the loop counts, since no method of std fills an array as far as a file
-// goes: `read_exact` refuses a file that is shorter, and `read_to_end` needs a heap.
+// chart file at most. Kept: the loop and its length, since no method of std fills an array as far as
+// a file goes: `read_exact` refuses a shorter file, and `read_to_end` needs a heap.
 fn read_file(rt: &impl Files, buf: &mut [u8]) -> Result<usize, Error>
     requires { length buf.old ≡ read_of_file }
     ensures { IfOk result (λ n. IsPrefixLen n buf.new) }
@@ -47,18 +48,19 @@ fn read_file(rt: &impl Files, buf: &mut [u8]) -> Result<usize, Error>
 }
 
 // Reads behind the bytes at hand.
-fn read(rt: &impl Eprint, input: &mut impl Read, session: Session, buffer: &mut [u8]) -> Session
-    requires { session.end ≤ length buffer.old }
+fn read(rt: &impl Eprint, input: &mut impl Read, session: &mut Session, buffer: &mut [u8])
+    requires { session.old.end ≤ length buffer.old }
 {
     let got = input
         .read(&mut buffer[session.end..])
         .inspect_err(|error| fail(rt, "standard input", error))
         .ok();
-    transcript::received(session, got, buffer)
+    session.received(got, buffer);
 }
 
 // Does what each turn wants, until one wants to stop or a write fails. An ending loop counts its
-// turns, up to a number that no run uses up.
+// turns, up to a number that no run uses up. Kept: the three arms say what a turn's want means, and
+// closures for them would be no plainer.
 fn serve(
     rt: &(impl Input + Print + Eprint),
     runner: Runner,
@@ -68,11 +70,9 @@ fn serve(
     let mut input = rt.reader();
     let mut session = Session::default();
     for _ in 0..u64::MAX {
-        let turned = transcript::turn(runner, session, buffer, out);
-        session = turned.session;
-        match turned.wanted {
+        match session.turn(runner, buffer, out) {
             Wanted::Write(length) => rt.write_all(&out[..length])?,
-            Wanted::Read => session = read(rt, &mut input, session, buffer),
+            Wanted::Read => read(rt, &mut input, &mut session, buffer),
             Wanted::Stop => break,
         }
     }

@@ -1,7 +1,9 @@
 -- The state that a session stands for: what is kept of its bytes, after a read, and after a turn.
 -- Assumes nothing.
-use Rattle.std.proofs.Common.{◌≡◌, ℕ, ◌+◌, ◌-◌, ◌<◌, min, Bool, true, false, Option, Some, None, List, [], ◌∷◌, ◌++◌, length, take, drop, sym, refl, ap, ◌∙◌, arith, length-drop, length-take, length-take-le, drop-drop, take_at, take-add, take-take, le-ltb, lt-ltb, append-nil, zero-add}
+use Rattle.std.proofs.Common.{◌≡◌, ℕ, ◌+◌, ◌-◌, ◌<◌, min, ◌||◌, true, false, eqb, Option, Some, None, List, [], ◌∷◌, ◌++◌, length, take, drop, sym, refl, ap, ◌∙◌, arith, length-drop, length-take, length-take-le, drop-drop, take_at, take-add, take-take, le-ltb, lt-ltb, append-nil, zero-add}
 use Rattle.std.proofs.lemmas.List.{drop_min, take_min}
+use Rattle.std.proofs.Math.Bool.{or-true, or-false}
+use borrow.Author.Tests.{ne_eqb}
 use native.Mathlib.Decide.{dec_lt}
 use lib.Seq.{drop-append-le}
 use Rattle.std.specs.List.{copy_within}
@@ -62,14 +64,13 @@ module _ {b : List ℕ} {s₀ s : Session} (h : IsWithin s₀ s b) where
     longer : drop s.at (take (s.end + n) b) ≡ drop s.at (take s.end b) ++ take n (drop s.end b)
     longer = ap (drop s.at) (take-add s.end n b) ∙ drop-append-le s.at (take s.end b) (take n (drop s.end b)) (omega (arith, length-take s.end b, h.ordered, h.in_bounds))
 
-    pub read_some : (over : Bool) → (n ≡ 0 → over ≡ true) → ((n ≡ 0 → ⊥) → over ≡ s.over)
-        → session_state (record { count = s.count; at = s.at; end = s.end + n; over = over }) b ≡ after_read got (drop s₀.end b) (session_state s₀ b)
+    pub read_some : session_state (record { count = s.count; at = s.at; end = s.end + n; over = s.over || eqb n 0 }) b ≡ after_read got (drop s₀.end b) (session_state s₀ b)
     unfolding after_read received
-    read_some over z m = rw (e, piece, longer, ← h.same) (by (take n (drop s.end b)) (length-take-le n (drop s.end b) (omega (arith, length-drop s.end b, h.in_bounds))))
+    read_some = rw (e, piece, longer, ← h.same) (by (take n (drop s.end b)) (length-take-le n (drop s.end b) (omega (arith, length-drop s.end b, h.in_bounds))))
       where
-        by : (x : List ℕ) → length x ≡ n → record { count = s.count; bytes = drop s.at (take s.end b) ++ x; over = over } ≡ received x (session_state s b)
-        by [] l = rw (z (sym l)) (simp append-nil)
-        by (y ∷ x) l = rw (m (λ q. absurd (omega arith))) refl
+        by : (x : List ℕ) → length x ≡ n → record { count = s.count; bytes = drop s.at (take s.end b) ++ x; over = s.over || eqb n 0 } ≡ received x (session_state s b)
+        by [] l = rw (← l, or-true s.over) (simp append-nil)
+        by (y ∷ x) l = rw (ne_eqb n 0 (λ q. absurd (omega arith)), or-false s.over) refl
 
   -- The turn that it takes, by what was fed of the bytes at hand.
   module _ (r : Runner) (out₀ out : List ℕ) (f : Fed) where

@@ -9,7 +9,6 @@ use Rattle.transcript.specs.declared.Fed.{Fed}
 use Rattle.transcript.specs.declared.Session.{Session}
 use Rattle.transcript.specs.declared.Wanted.{Wanted}
 use Rattle.transcript.specs.declared.Wanted.TheVariants as wanted
-use Rattle.transcript.specs.declared.Turned.{Turned}
 
 -- The number of the line after so many, as the program counts: in 64 bits.
 abbrev pub following : ℕ → ℕ
@@ -91,9 +90,6 @@ unfoldable pub wanted_of : Wanted → (out : List ℕ) → State → Turn
 wanted_of (wanted.Write length) out s = write (take length out) s
 wanted_of wanted.Read out s = read s
 wanted_of wanted.Stop out s = stop
-
-abbrev pub turn_of : Turned → (buffer out : List ℕ) → Turn
-turn_of t buffer out = wanted_of t.wanted out (session_state t.session buffer)
 
 -- A text that is wanted written is there.
 abbrev pub IsThere : Wanted → (out : List ℕ) → Type 0

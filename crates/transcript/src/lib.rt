@@ -5,11 +5,13 @@
 
 ghost use Rattle.std.specs.Prelude.{◌≡◌, ◌≤◌, ◌+◌, [], ◌∷◌, ◌++◌, length, take, drop, MatchOption, IfSome};
 ghost use Rattle.transcript.specs.Lines.{lines_in};
-ghost use Rattle.transcript.specs.Session.{feed, fed_of, clipped, turn, session_state, IsWithin, turn_of, IsThere, after_read};
+ghost use Rattle.transcript.specs.Session.{feed, fed_of, clipped, turn, session_state, IsWithin, wanted_of, IsThere, after_read};
 
 use runner::Runner;
 
 // The number of lines so far, how many bytes of input were taken, and the length of the text.
+// Kept: buffers are lent as slices of any length, which `feed` and `turn` promise for, so here and
+// below a text is told by its length, and the bytes at hand by their ends.
 #[derive(Clone, Copy)]
 pub struct Fed {
     pub count: u64,
@@ -36,12 +38,6 @@ pub enum Wanted {
     Stop,
 }
 
-#[derive(Clone, Copy)]
-pub struct Turned {
-    pub session: Session,
-    pub wanted: Wanted,
-}
-
 // The first line of some bytes and the bytes after it, where it can be answered: it has ended or,
 // where the input is over, it is the last.
 fn split_line(bytes: &[u8], over: bool) -> Option<(&[u8], &[u8])>
@@ -57,6 +53,7 @@ fn split_line(bytes: &[u8], over: bool) -> Option<(&[u8], &[u8])>
 
 // Answers the lines that end in the input and, where the input is over, its last line, at the front
 // of a buffer, until none is left or the room is short of a text.
+// Kept: it takes the parts of a session, not the session, since it promises for any bytes.
 pub fn feed(runner: Runner, lines: u64, over: bool, input: &[u8], out: &mut [u8]) -> Fed
     ensures value { result ≡ fed_of (feed runner (length out.old) lines over input.now) (length input.now) }
     ensures out_after { out.new ≡ (feed runner (length out.old) lines over input.now).text ++ drop result.length out.old }
@@ -93,76 +90,57 @@ pub fn keep(at: usize, end: usize, buffer: &mut [u8]) -> usize
 }
 
 impl Session {
-    // The session with the ends of its part kept within a buffer.
-    fn within(self, buffer: &[u8]) -> Session
-        ensures { IsWithin self result buffer.now }
+    // Keeps the ends of the session's part within a buffer.
+    fn clamp(&mut self, buffer: &[u8])
+        ensures { IsWithin self.old self.new buffer.now }
     {
-        let end = self.end.min(buffer.len());
-        let at = self.at.min(end);
-        Session { at, end, ..self }
+        self.end = self.end.min(buffer.len());
+        self.at = self.at.min(self.end);
     }
-}
 
-// A turn of a session, with the input's buffer and one for texts.
-pub fn turn(runner: Runner, session: Session, buffer: &mut [u8], out: &mut [u8]) -> Turned
-    ensures turned { turn_of result buffer.new out.new ≡ turn runner (length out.old) (session_state session buffer.old) }
-    ensures end_in_bounds { result.session.end ≤ length buffer.new }
-    ensures prefix_len { IsThere result.wanted out.new }
-{
-    let session = session.within(buffer);
-    let Session {
-        count,
-        at,
-        end,
-        over,
-    } = session;
-    let fed = feed(runner, count, over, &buffer[at..end], out);
-    if 0 < fed.taken {
-        return Turned {
-            session: Session {
-                count: fed.count,
-                at: at + fed.taken,
-                ..session
-            },
-            wanted: Wanted::Write(fed.length),
-        };
+    // A turn, with the input's buffer and one for texts.
+    pub fn turn(&mut self, runner: Runner, buffer: &mut [u8], out: &mut [u8]) -> Wanted
+        ensures turned { wanted_of result out.new (session_state self.new buffer.new) ≡ turn runner (length out.old) (session_state self.old buffer.old) }
+        ensures end_in_bounds { self.new.end ≤ length buffer.new }
+        ensures prefix_len { IsThere result out.new }
+    {
+        self.clamp(buffer);
+        let fed = feed(
+            runner,
+            self.count,
+            self.over,
+            &buffer[self.at..self.end],
+            out,
+        );
+        if 0 < fed.taken {
+            self.count = fed.count;
+            self.at += fed.taken;
+            return Wanted::Write(fed.length);
+        }
+        if self.over {
+            return Wanted::Stop;
+        }
+        self.end = keep(self.at, self.end, buffer);
+        self.at = 0;
+        Wanted::Read
     }
-    if over {
-        return Turned {
-            session,
-            wanted: Wanted::Stop,
-        };
-    }
-    let kept = keep(at, end, buffer);
-    Turned {
-        session: Session {
-            at: 0,
-            end: kept,
-            ..session
-        },
-        wanted: Wanted::Read,
-    }
-}
 
-// The session after a read, which put so many bytes behind those at hand or, where there is no
-// number, failed.
-pub fn received(session: Session, got: Option<usize>, buffer: &[u8]) -> Session
-    ensures { session_state result buffer.now ≡ after_read got (drop session.end buffer.now) (session_state session buffer.now) }
-{
-    let session = session.within(buffer);
-    match got {
-        Some(count) => {
-            let count = count.min(buffer.len() - session.end);
-            Session {
-                end: session.end + count,
-                over: session.over || count == 0,
-                ..session
+    // After a read, which put so many bytes behind those at hand or, where there is no number,
+    // failed.
+    pub fn received(&mut self, got: Option<usize>, buffer: &[u8])
+        ensures { session_state self.new buffer.now ≡ after_read got (drop self.old.end buffer.now) (session_state self.old buffer.now) }
+    {
+        self.clamp(buffer);
+        match got {
+            Some(count) => {
+                let count = count.min(buffer.len() - self.end);
+                self.end += count;
+                self.over |= count == 0;
+            }
+            None => {
+                self.end = self.at;
+                self.over = true;
             }
         }
-        None => Session {
-            end: session.at,
-            over: true,
-            ..session
-        },
     }
 }
