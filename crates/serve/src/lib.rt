@@ -79,7 +79,8 @@ fn serve(
     Ok(())
 }
 
-// Writes the transcript of chart.bin and standard input, as far as writes go.
+// Writes the transcript of chart.bin and standard input, as far as writes go. Kept: arrays and what
+// lies at their front, since `read_chart` and `reply::load_chart` tell a length of a lent buffer.
 fn transcribe(rt: &(impl Files + Input + Print + Eprint)) -> Result<(), Error> {
     let mut file = [0u8; 2561];
     let length = read_chart(rt, &mut file);
