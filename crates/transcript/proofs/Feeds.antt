@@ -45,7 +45,11 @@ module _ (r : Runner) (lines : ℕ) (over : Bool) (input out₀ : List ℕ) wher
     many : length (take size out) ≡ size
     many = length-take-le size out (omega (arith, h.fits, h.same))
 
-    ends : rest left count size ≡ none count → (record { count = count; taken = length input - length left; length = size } ≡ fed_of all (length input)) × (out ≡ all.text ++ drop size out₀)
+    -- What the end of the loop tells.
+    abbrev pub Ends : Type 0
+    Ends = (record { count = count; taken = length input - length left; length = size } ≡ fed_of all (length input)) × (out ≡ all.text ++ drop size out₀)
+
+    ends : rest left count size ≡ none count → Ends
     ends e =
         let number : all.count ≡ count = h.number ∙ ap (λ (p : Portion). p.count) e in
         let takes : min all.taken (length input) ≡ length input - length left = omega (arith, h.takes, ap (λ (p : Portion). p.taken) e, h.within) in
@@ -54,11 +58,11 @@ module _ (r : Runner) (lines : ℕ) (over : Bool) (input out₀ : List ℕ) wher
         (rw (number, takes, long) refl, h.texts ∙ ap (λ (x : List ℕ). x ++ drop size out₀) (sym text))
 
     -- No line is left that can be answered, or no room.
-    pub ends_lines : lines_in over left ≡ [] → (record { count = count; taken = length input - length left; length = size } ≡ fed_of all (length input)) × (out ≡ all.text ++ drop size out₀)
+    pub ends_lines : lines_in over left ≡ [] → Ends
     unfolding rest portion
     ends_lines e = ends (rw e refl)
 
-    pub ends_room : length out - size < 64 → (record { count = count; taken = length input - length left; length = size } ≡ fed_of all (length input)) × (out ≡ all.text ++ drop size out₀)
+    pub ends_room : length out - size < 64 → Ends
     unfolding rest portion
     ends_room l = ends (by (lines_in over left) (omega (arith, h.same)))
       where

@@ -44,17 +44,17 @@ module _ (b : List ℕ) (at end e a n : ℕ) (he : e ≡ min end (length b)) (ha
 -- A session whose part lies within the buffer, which stands for the same state as another.
 module _ {b : List ℕ} {s₀ s : Session} (h : IsWithin s₀ s b) where
   -- After a read.
-  pub read_failed : (got : Option ℕ) → got ≡ None
+  pub read_failed : {got : Option ℕ} → got ≡ None
       → session_state (record { count = s.count; at = s.at; end = s.at; over = true }) b ≡ after_read got (drop s₀.end b) (session_state s₀ b)
   unfolding after_read
-  read_failed got e =
+  read_failed e =
       let none : s.at - s.at ≡ 0 = omega arith in
       rw e
       (ap (λ (x : List ℕ). record { count = s.count; bytes = x; over = true }) (drop_take s.at s.at b ∙ ap (λ (n : ℕ). take n (drop s.at b)) none)
       ∙ ap failed h.same)
 
   -- It brought so many bytes behind those at hand.
-  module _ (got : Option ℕ) (k n : ℕ) (e : got ≡ Some k) (c : n ≡ min k (length b - s.end)) where
+  module _ {got : Option ℕ} {k n : ℕ} (e : got ≡ Some k) (c : n ≡ min k (length b - s.end)) where
     piece : take k (drop s₀.end b) ≡ take n (drop s.end b)
     piece =
         ap (take k) (sym h.behind)
@@ -122,10 +122,10 @@ module _ {b : List ℕ} {s₀ s : Session} (h : IsWithin s₀ s b) where
           let none : p.taken ≡ 0 = nothing z in
           rw (le-ltb 0 p.taken (omega arith), w) refl ∙ ap (turn r (length out₀)) h.same
 
-      pub turn_reads : f.taken ≡ 0 → s.over ≡ false → (b' : List ℕ) (n : ℕ) → n ≡ length (clipped hand) → b' ≡ clipped hand ++ drop n b
+      pub turn_reads : f.taken ≡ 0 → s.over ≡ false → {b' : List ℕ} {n : ℕ} → n ≡ length (clipped hand) → b' ≡ clipped hand ++ drop n b
           → wanted_of wanted.Read out (session_state (record { count = s.count; at = 0; end = n; over = s.over }) b') ≡ turn r (length out₀) (session_state s₀ b)
       unfolding turn wanted_of p
-      turn_reads z w b' n l k =
+      turn_reads z w {b'} {n} l k =
           let none : p.taken ≡ 0 = nothing z in
           let moved : take n b' ≡ clipped hand = ap (take n) k ∙ take_at (clipped hand) (drop n b) n (sym l) in
           rw (le-ltb 0 p.taken (omega arith), w, moved) refl ∙ ap (turn r (length out₀)) h.same

@@ -5,17 +5,16 @@ use Rattle.transcript.proofs.Session.turn.Goals as goal
 
 pub returns-then-fed-gt0-clause-turned : goal.returns-then-fed-gt0-clause-turned
 returns-then-fed-gt0-clause-turned c =
-    let f = c.feed-fed in
-    turn_writes c.clamp.ensures c.args.runner c.args.out.now f.new.out f.result f.ensures.value f.ensures.out_after c.if-fed-gt0.true
+    let fed = c.feed-fed.ensures in
+    turn_writes c.clamp.ensures _ _ _ _ fed.value fed.out_after c.if-fed-gt0.true
 
 pub returns-then-self-clause-turned : goal.returns-then-self-clause-turned
 returns-then-self-clause-turned c =
-    let f = c.feed-fed in
-    turn_stops c.clamp.ensures c.args.runner c.args.out.now f.new.out f.result f.ensures.value f.ensures.out_after (omega (arith, c.if-fed-gt0.false)) c.if-self.true
+    let fed = c.feed-fed.ensures in
+    turn_stops c.clamp.ensures _ _ _ _ fed.value fed.out_after (omega (arith, c.if-fed-gt0.false)) c.if-self.true
 
 pub returns-clause-turned : goal.returns-clause-turned
 returns-clause-turned c =
-    let f = c.feed-fed in
-    let kept = c.keep-self in
-    turn_reads c.clamp.ensures c.args.runner c.args.out.now f.new.out f.result f.ensures.value f.ensures.out_after (omega (arith, c.if-fed-gt0.false)) c.if-self.false
-    kept.new.buffer kept.result kept.ensures.value kept.ensures.buffer_after
+    let fed = c.feed-fed.ensures in
+    let kept = c.keep-self.ensures in
+    turn_reads c.clamp.ensures _ _ _ _ fed.value fed.out_after (omega (arith, c.if-fed-gt0.false)) c.if-self.false kept.value kept.buffer_after
