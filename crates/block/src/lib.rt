@@ -80,8 +80,8 @@ pub fn checksum(added: u32, block: &[u8]) -> u32
 {
     let end = block.len().min(510);
     let mut sum = (added % 65536) as u16;
-    for (i, byte) in block[..end].iter().enumerate() {
-        let term = (i as u32 + 1) * u32::from(*byte);
+    for (weight, byte) in (1u32..).zip(&block[..end]) {
+        let term = weight * u32::from(*byte);
         sum = sum.wrapping_add((term % 65536) as u16);
     }
     u32::from(sum)
