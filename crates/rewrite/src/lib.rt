@@ -1,7 +1,7 @@
 // The rewriter: a decision between two copies into one variable becomes a choice without a branch.
 #![tactic(auto)]
 
-ghost use Rattle.std.specs.Prelude.{◌≡◌, [], MatchOption, ◌++◌, ◌+◌, ◌*◌, ◌<◌, take, drop};
+ghost use Rattle.std.specs.Prelude.{◌≡◌, [], MatchOption, ◌++◌, ◌+◌, ◌*◌, ◌<◌, length, take, drop};
 ghost use Rattle.boxes.specs.Bytes.{box_of};
 ghost use Rattle.rewrite.specs.Rewrite.{rewritten_box, rewritten};
 ghost use Rattle.rewrite.specs.Reading.{copy_of, choice_at};
@@ -15,10 +15,11 @@ struct CopyBox {
 }
 
 // The box of a number, where a place has it.
-fn box_at(table: &[u8; 2040], number: u8) -> Option<&[u8; 10]>
-    ensures { MatchOption result (box_of table.now number ≡ []) (λ b. b.now ≡ box_of table.now number) }
+fn box_at(table: &[u8; 2040], number: u8) -> Option<&[u8]>
+    ensures { MatchOption result (box_of table.now number ≡ []) (λ b. (b.now ≡ box_of table.now number) × (length b.now ≡ 10)) }
 {
-    table.get(10 * usize::from(number)..)?.first_chunk()
+    let start = 10 * usize::from(number);
+    table.get(start..start + 10)
 }
 
 // The box of a number, if it is a copy.
