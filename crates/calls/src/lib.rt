@@ -10,6 +10,7 @@ use format::Header;
 
 // What the refusals look at of a runner: the header of the chart held, whether a run is under way,
 // the least amount by which it may be advanced, and whether there is an ended run.
+// Kept: flags, since `check` answers of any standing, also of one that no runner has.
 #[derive(Clone, Copy, Debug, PartialEq, Eq)]
 pub struct Standing {
     pub header: Header,
@@ -31,7 +32,7 @@ fn at_rest(standing: Standing) -> Result<(), Refusal>
     Ok(())
 }
 
-// The verdict on a begin.
+// The verdict on a begin. Kept: four arguments, which the call itself takes.
 #[tactic(auto, using(crate::proofs::Refusals::tells_mode, crate::proofs::Refusals::tells_count, crate::proofs::Refusals::tells_allowed, crate::proofs::Refusals::tells_limit, crate::proofs::Refusals::tells_done))]
 pub fn check_begin(
     standing: Standing,

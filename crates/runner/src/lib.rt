@@ -54,6 +54,8 @@ impl State {
 // The chart that is held: its header and the box table. Of a run under way: the counter mark, the
 // mode, the box at hand, the limit and the steps so far, and last the variables and their marks.
 // What a run stores to is not beside the table, so that the table is not copied with it.
+// Kept: arrays of 32 numbers beside one another, and a new runner's table of zeros without a chart,
+// which 01 asks for; `is_held` tells a chart by its header.
 #[derive(Clone, Copy)]
 pub struct Runner {
     header: Header,
@@ -187,6 +189,7 @@ impl Runner {
         self.vars = begin::first_vars(inputs);
         self.marks = begin::first_marks(allowed, self.header.inputs);
         self.counter = 0;
+        // Kept: std's `From` widens alone. `check_begin` let pass what fits.
         self.mode = Mode::from(mode as u8);
         self.at = self.header.first;
         self.limit = begin::effective(limit) as u16;
@@ -214,6 +217,7 @@ impl Runner {
         let mut at = self.at;
         let mut half = decode::first_half(at);
         let mut end = portion.end;
+        // Kept: a counted limit that is spent, which 01 asks of advance.
         while 0 < left {
             left -= 1;
             let b = decode::box_at(&self.table, half);
@@ -230,6 +234,8 @@ impl Runner {
                     mark,
                     next,
                 } => {
+                    // Kept: by `usize::from` the place would be its result in the loop's proof, which
+                    // did not close.
                     let t = (target % 32) as usize;
                     self.vars[t] = v;
                     self.marks[t] = mark;
@@ -255,6 +261,7 @@ impl Runner {
         match end {
             None => {
                 self.at = at;
+                // Kept: std's `From` widens alone, and steps below a limit fit.
                 self.steps = steps as u16;
             }
             Some(ending) => {
@@ -330,10 +337,7 @@ impl Runner {
 fn amount(verdict: Result<(), Refusal>, m: u32) -> u32
     ensures { result ≡ by_verdict verdict m (λ x. 0) }
 {
-    match verdict {
-        Ok(()) => m,
-        Err(_) => 0,
-    }
+    verdict.map_or(0, |()| m)
 }
 
 // What an advance runs of the boxes asked for, and how the run ends after them where none of them
@@ -366,10 +370,7 @@ fn allot(asked: u32, limit: u16, steps: u16) -> Portion
 fn left_to(limit: u32, steps: u32) -> u32
     ensures { result ≡ cond (ltb steps limit) (limit - steps) 1 }
 {
-    if steps < limit {
-        return limit - steps;
-    }
-    1
+    limit.saturating_sub(steps).max(1)
 }
 
 // What is disclosed of an ended run. A value keeps its count; where counts are hidden, nothing else
