@@ -14,12 +14,27 @@ use Rattle.runner.specs.declared.Runner.{Runner}
 use Rattle.runner.specs.declared.Loaded.{Loaded}
 use Rattle.runner.specs.declared.Advanced.{Advanced}
 use Rattle.runner.specs.declared.Answered.{Answered}
-use Rattle.reply.specs.Reply.{is_accepted, begin_of, run_reply}
+use Rattle.runner.specs.declared.Answered.TheVariants.{Value, Notice, Spent}
+use Rattle.texts.specs.Texts.{text_of, of_loaded, of_answered}
+use Rattle.reply.specs.Reply.{ending_text, reply_text, is_accepted, begin_of, run_reply}
 
 pub accepts : (told : Result Loaded Refusal) → is_ok told ≡ is_accepted (load_reply told)
 unfolding load_reply is_accepted
 accepts (Ok c) = refl
 accepts (Err x) = refl
+
+-- The texts of what is told are those of the replies.
+pub says_loaded : (told : Result Loaded Refusal) → text_of (of_loaded told) ≡ reply_text (load_reply told)
+unfolding load_reply reply_text
+says_loaded (Ok c) = refl
+says_loaded (Err x) = refl
+
+pub says_answered : (told : Result Answered Refusal) → text_of (of_answered told) ≡ reply_text (answer_reply told)
+unfolding answer_reply reply_text ending_text
+says_answered (Ok (Value value steps)) = refl
+says_answered (Ok (Notice named steps)) = refl
+says_answered (Ok (Spent steps)) = refl
+says_answered (Err x) = refl
 
 pub counts : (text out after : List ℕ) (r : ℕ) → length after ≡ length out → r ≡ printed_length text (length out) → after ≡ printed text out → IsPrefixLen r after
 counts text out after r l e f = rw (e, f) (printed_counts text out (ap length (sym f) ∙ l))

@@ -19,20 +19,20 @@ clause word n = word ++ decimal n
 unfoldable pub sentence : List (List ℕ × ℕ) → List ℕ
 sentence clauses = flat_map (λ c. clause c.0 c.1) clauses ++ (10 ∷ [])
 
-unfoldable pub chart_text : ℕ → ℕ → List ℕ
+abbrev pub chart_text : ℕ → ℕ → List ℕ
 chart_text k n = sentence ((codes "chart inputs ", k) ∷ (codes " boxes ", n) ∷ [])
 
-unfoldable pub value_text : ℕ → ℕ → List ℕ
+abbrev pub value_text : ℕ → ℕ → List ℕ
 value_text value steps = sentence ((codes "value ", value) ∷ (codes " steps ", steps) ∷ [])
 
 -- 02, a: "The run program prints the set as a decimal number after each notice".
-unfoldable pub notice_text : ℕ → ℕ → List ℕ
+abbrev pub notice_text : ℕ → ℕ → List ℕ
 notice_text steps named = sentence ((codes "notice steps ", steps) ∷ (codes " inputs ", named) ∷ [])
 
-unfoldable pub spent_text : ℕ → List ℕ
+abbrev pub spent_text : ℕ → List ℕ
 spent_text steps = sentence ((codes "spent steps ", steps) ∷ [])
 
-unfoldable pub refused_text : ℕ → ℕ → List ℕ
+abbrev pub refused_text : ℕ → ℕ → List ℕ
 refused_text number detail = sentence ((codes "refused ", number) ∷ (codes " detail ", detail) ∷ [])
 
 -- A text at the front of a lent buffer, the bytes past it untouched; every text fits in 64 bytes,

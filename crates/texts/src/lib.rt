@@ -1,11 +1,103 @@
-// The texts that the run program prints, each at the front of a lent buffer; each answers how many
-// bytes it put there.
-// Kept: a Display with `write!` has no promise of when it is Ok, so bytes that always come are put
-// by hand.
+// The texts that the run program prints.
 #![tactic(auto)]
 
 ghost use Rattle.std.specs.Prelude.{◌≡◌, ◌++◌, ◌+◌, ◌<◌, ◌≤◌, length, drop, map, sum_by};
-ghost use Rattle.texts.specs.Printing.{clause, sentence, chart_text, value_text, notice_text, spent_text, refused_text, printed, printed_length};
+ghost use Rattle.texts.specs.Printing.{clause, sentence, printed, printed_length};
+
+use block::Refusal;
+use runner::{Answered, Loaded};
+
+// The chart line, the ending of a run, or a refusal, whose detail passes 32 bits where it is the
+// number of a line that is ill-formed.
+#[derive(Clone, Copy, Debug, PartialEq, Eq)]
+pub enum Text {
+    Chart { inputs: u8, boxes: u8 },
+    Value { value: u32, steps: u32 },
+    Notice { steps: u32, named: u16 },
+    Spent { steps: u32 },
+    Refused { number: u32, detail: u64 },
+}
+
+impl From<Refusal> for Text {
+    ghost use Rattle.texts.specs.Texts.{of_refusal};
+
+    ghost from_gives = { λ refusal text. text ≡ of_refusal refusal };
+
+    fn from(refusal: Refusal) -> Text {
+        Text::Refused {
+            number: refusal.number,
+            detail: u64::from(refusal.detail),
+        }
+    }
+}
+
+impl From<Result<Loaded, Refusal>> for Text {
+    ghost use Rattle.texts.specs.Texts.{of_loaded};
+
+    ghost from_gives = { λ told text. text ≡ of_loaded told };
+
+    fn from(told: Result<Loaded, Refusal>) -> Text {
+        match told {
+            Ok(Loaded { inputs, boxes }) => Text::Chart { inputs, boxes },
+            Err(refusal) => Text::from(refusal),
+        }
+    }
+}
+
+impl From<Result<Answered, Refusal>> for Text {
+    ghost use Rattle.texts.specs.Texts.{of_answered};
+
+    ghost from_gives = { λ told text. text ≡ of_answered told };
+
+    fn from(told: Result<Answered, Refusal>) -> Text {
+        match told {
+            Ok(Answered::Value { value, steps }) => Text::Value { value, steps },
+            Ok(Answered::Notice { named, steps }) => Text::Notice { steps, named },
+            Ok(Answered::Spent(steps)) => Text::Spent { steps },
+            Err(refusal) => Text::from(refusal),
+        }
+    }
+}
+
+impl Text {
+    ghost use Rattle.texts.specs.Texts.{text_of};
+
+    // Prints at the front of a buffer, and answers how many bytes it put there: none in a buffer
+    // that is short of 64.
+    // Kept: a Display and `write!` promise their bytes where they are Ok, and no clause says when
+    // that is, but these bytes always come. The length 0 is held by `printed_length`.
+    #[tactic(auto, unfolding(crate::specs::Printing::sentence))]
+    pub fn print(self, out: &mut [u8]) -> usize
+        ensures value { result ≡ printed_length (text_of self) (length out.old) }
+        ensures out_after { out.new ≡ printed (text_of self) out.old }
+    {
+        match self {
+            Text::Chart { inputs, boxes } => print(
+                &[
+                    ("chart inputs ", u64::from(inputs)),
+                    (" boxes ", u64::from(boxes)),
+                ],
+                out,
+            ),
+            Text::Value { value, steps } => print(
+                &[("value ", u64::from(value)), (" steps ", u64::from(steps))],
+                out,
+            ),
+            Text::Notice { steps, named } => print(
+                &[
+                    ("notice steps ", u64::from(steps)),
+                    (" inputs ", u64::from(named)),
+                ],
+                out,
+            ),
+            Text::Spent { steps } => print(&[("spent steps ", u64::from(steps))], out),
+            Text::Refused { number, detail } => print(
+                &[("refused ", u64::from(number)), (" detail ", detail)],
+                out,
+            ),
+        }
+    }
+}
 
 // A word and a number at the front.
 fn put_clause(word: &str, number: u64, out: &mut [u8]) -> usize
@@ -38,64 +130,4 @@ fn print(clauses: &[(&str, u64)], out: &mut [u8]) -> usize
     }
     out[at] = b'\n';
     at + 1
-}
-
-// The chart line: the numbers of inputs and boxes.
-#[tactic(auto, unfolding(crate::specs::Printing::chart_text, crate::specs::Printing::sentence))]
-pub fn print_chart(inputs: u8, boxes: u8, out: &mut [u8]) -> usize
-    ensures value { result ≡ printed_length (chart_text inputs boxes) (length out.old) }
-    ensures out_after { out.new ≡ printed (chart_text inputs boxes) out.old }
-{
-    print(
-        &[
-            ("chart inputs ", u64::from(inputs)),
-            (" boxes ", u64::from(boxes)),
-        ],
-        out,
-    )
-}
-
-#[tactic(auto, unfolding(crate::specs::Printing::value_text))]
-pub fn print_value(value: u32, steps: u32, out: &mut [u8]) -> usize
-    ensures value { result ≡ printed_length (value_text value steps) (length out.old) }
-    ensures out_after { out.new ≡ printed (value_text value steps) out.old }
-{
-    print(
-        &[("value ", u64::from(value)), (" steps ", u64::from(steps))],
-        out,
-    )
-}
-
-#[tactic(auto, unfolding(crate::specs::Printing::notice_text))]
-pub fn print_notice(steps: u32, named: u16, out: &mut [u8]) -> usize
-    ensures value { result ≡ printed_length (notice_text steps named) (length out.old) }
-    ensures out_after { out.new ≡ printed (notice_text steps named) out.old }
-{
-    print(
-        &[
-            ("notice steps ", u64::from(steps)),
-            (" inputs ", u64::from(named)),
-        ],
-        out,
-    )
-}
-
-#[tactic(auto, unfolding(crate::specs::Printing::spent_text))]
-pub fn print_spent(steps: u32, out: &mut [u8]) -> usize
-    ensures value { result ≡ printed_length (spent_text steps) (length out.old) }
-    ensures out_after { out.new ≡ printed (spent_text steps) out.old }
-{
-    print(&[("spent steps ", u64::from(steps))], out)
-}
-
-// A refusal; the detail of a line that is ill-formed is its number, which may pass 32 bits.
-#[tactic(auto, unfolding(crate::specs::Printing::refused_text))]
-pub fn print_refused(number: u32, detail: u64, out: &mut [u8]) -> usize
-    ensures value { result ≡ printed_length (refused_text number detail) (length out.old) }
-    ensures out_after { out.new ≡ printed (refused_text number detail) out.old }
-{
-    print(
-        &[("refused ", u64::from(number)), (" detail ", detail)],
-        out,
-    )
 }
