@@ -14,8 +14,10 @@ use Rattle.runner.specs.declared.Runner.{Runner}
 use Rattle.runner.specs.declared.Loaded.{Loaded}
 use Rattle.runner.specs.declared.Advanced.{Advanced}
 use Rattle.runner.specs.declared.Answered.{Answered}
-use Rattle.runner.specs.declared.Answered.TheVariants.{Value, Notice, Spent}
-use Rattle.texts.specs.Texts.{text_of, of_loaded, of_answered}
+use Rattle.runner.specs.declared.Ending.{Ending}
+use Rattle.runner.specs.declared.Ending.TheVariants.{Value, Notice, Spent}
+use Rattle.runner.specs.State.{ending_of}
+use Rattle.texts.specs.Texts.{text_of, of_loaded, of_ending, of_answered}
 use Rattle.reply.specs.Reply.{ending_text, reply_text, is_accepted, begin_of, run_reply}
 
 pub accepts : (told : Result Loaded Refusal) → is_ok told ≡ is_accepted (load_reply told)
@@ -31,9 +33,12 @@ says_loaded (Err x) = refl
 
 pub says_answered : (told : Result Answered Refusal) → text_of (of_answered told) ≡ reply_text (answer_reply told)
 unfolding answer_reply reply_text ending_text
-says_answered (Ok (Value value steps)) = refl
-says_answered (Ok (Notice named steps)) = refl
-says_answered (Ok (Spent steps)) = refl
+says_answered (Ok a) = by a.ending
+  where
+    by : (e : Ending) → text_of (of_ending e a.steps) ≡ ending_text (ending_of e) a.steps
+    by (Value value) = refl
+    by (Notice named) = refl
+    by Spent = refl
 says_answered (Err x) = refl
 
 pub counts : (text out after : List ℕ) (r : ℕ) → length after ≡ length out → r ≡ printed_length text (length out) → after ≡ printed text out → IsPrefixLen r after

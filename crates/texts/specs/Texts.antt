@@ -3,7 +3,8 @@ use Rattle.std.specs.Prelude.{ℕ, List, Result, Ok, Err}
 use Rattle.block.specs.declared.Refusal.{Refusal}
 use Rattle.runner.specs.declared.Loaded.{Loaded}
 use Rattle.runner.specs.declared.Answered.{Answered}
-use Rattle.runner.specs.declared.Answered.TheVariants as answered
+use Rattle.runner.specs.declared.Ending.{Ending}
+use Rattle.runner.specs.declared.Ending.TheVariants as ending
 use Rattle.texts.specs.declared.Text.{Text}
 use Rattle.texts.specs.declared.Text.TheVariants.{Chart, Value, Notice, Spent, Refused}
 use Rattle.texts.specs.Printing.{chart_text, value_text, notice_text, spent_text, refused_text}
@@ -22,8 +23,11 @@ abbrev pub of_loaded : Result Loaded Refusal → Text
 of_loaded (Ok c) = Chart c.inputs c.boxes
 of_loaded (Err x) = of_refusal x
 
+abbrev pub of_ending : Ending → ℕ → Text
+of_ending (ending.Value value) steps = Value value steps
+of_ending (ending.Notice named) steps = Notice steps named
+of_ending ending.Spent steps = Spent steps
+
 abbrev pub of_answered : Result Answered Refusal → Text
-of_answered (Ok (answered.Value value steps)) = Value value steps
-of_answered (Ok (answered.Notice named steps)) = Notice steps named
-of_answered (Ok (answered.Spent steps)) = Spent steps
+of_answered (Ok a) = of_ending a.ending a.steps
 of_answered (Err x) = of_refusal x

@@ -5,7 +5,7 @@ ghost use Rattle.std.specs.Prelude.{◌≡◌, ◌++◌, ◌+◌, ◌<◌, ◌�
 ghost use Rattle.texts.specs.Printing.{clause, sentence, printed, printed_length};
 
 use block::Refusal;
-use runner::{Answered, Loaded};
+use runner::{Answered, Ending, Loaded};
 
 // The chart line, the ending of a run, or a refusal, whose detail passes 32 bits where it is the
 // number of a line that is ill-formed.
@@ -51,9 +51,11 @@ impl From<Result<Answered, Refusal>> for Text {
 
     fn from(told: Result<Answered, Refusal>) -> Text {
         match told {
-            Ok(Answered::Value { value, steps }) => Text::Value { value, steps },
-            Ok(Answered::Notice { named, steps }) => Text::Notice { steps, named },
-            Ok(Answered::Spent(steps)) => Text::Spent { steps },
+            Ok(Answered { ending, steps }) => match ending {
+                Ending::Value(value) => Text::Value { value, steps },
+                Ending::Notice(named) => Text::Notice { steps, named },
+                Ending::Spent => Text::Spent { steps },
+            },
             Err(refusal) => Text::from(refusal),
         }
     }
