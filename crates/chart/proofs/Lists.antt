@@ -7,7 +7,8 @@ use mathlib.Core.List.{List, ◌++◌}
 use native.Mathlib.Omega.{arith}
 use lib.ListN.{length, take, drop, replicate, length-take, length-drop}
 use lib.Seq.{take-take, drop-drop, drop-append-add}
-use Rattle.lists.proofs.Parts.{drop_take, drop_replicate}
+use Rattle.std.proofs.lemmas.List.{drop-replicate}
+use Rattle.lists.proofs.Parts.{drop_take}
 use Rattle.boxes.specs.Bytes.{part, all_zero}
 
 pub length_part : (f : List ℕ) (a size : ℕ) → a + size ≤ length f → length (part f a size) ≡ size
@@ -29,5 +30,5 @@ pub part_zeros : (p : List ℕ) (n a m : ℕ) → length p ≤ a → all_zero (p
 part_zeros p n a m h =
     let past : a ≡ length p + (a - length p) = omega arith in
     ap (λ (x : ℕ). all_zero (part (p ++ replicate n 0) x m)) past
-    ∙ ap (λ (l : List ℕ). all_zero (take m l)) (drop-append-add p (replicate n 0) (a - length p) ∙ drop_replicate (a - length p) n 0)
+    ∙ ap (λ (l : List ℕ). all_zero (take m l)) (drop-append-add p (replicate n 0) (a - length p) ∙ drop-replicate (a - length p) n 0)
     ∙ zeros m (n - (a - length p))
