@@ -12,6 +12,7 @@ const LIMIT_FOR_NONE: u32 = 4096;
 pub fn effective(limit: u32) -> u32
     ensures { result ≡ effective limit }
 {
+    // Kept: 0 for no limit, as `effective` in specs/ has it, after document 01.
     if limit == 0 { LIMIT_FOR_NONE } else { limit }
 }
 
@@ -19,6 +20,7 @@ pub fn effective(limit: u32) -> u32
 pub fn first_vars(inputs: &[u32]) -> [u32; 32]
     ensures { result ≡ first_vars inputs.now }
 {
+    // Kept: an array beside that of the marks, since document 01 has the runner hold both.
     let end = inputs.len().min(32);
     let mut vars = [0u32; 32];
     vars[..end].copy_from_slice(&inputs[..end]);

@@ -20,6 +20,7 @@ pub fn table_of(file: &[u8]) -> [u8; 2040]
     ensures { result ≡ table_of file.now }
 {
     let count = box_blocks(file.len());
+    // Kept: boxes are bytes of one array, since document 01 has the runner hold it.
     let mut table = [0u8; 2040];
     for j in 0..count {
         let to = 510 * j;

@@ -12,6 +12,7 @@ use format::Header;
 fn in_other(header: Header) -> Header
     ensures { result ≡ in_other header }
 {
+    // Kept: an edition is a byte, as `other_than` in specs/ has it.
     let edition = if header.edition == 2 { 1 } else { 2 };
     Header { edition, ..header }
 }
@@ -23,6 +24,7 @@ fn takes_box(edition: u8, table: &[u8; 2040], p: u8) -> bool
     requires { p < 204 }
     ensures { result ≡ takes_box edition table.now p }
 {
+    // Kept: a box is bytes of the table, the kind too, as `takes` in specs/ has it.
     let start = 10 * usize::from(p);
     let b = &table[start..start + 10];
     if b[0] == 1 {

@@ -10,7 +10,7 @@ use block::{Reason, Refusal};
 // Block 0's numbers of a chart: the edition, the number of inputs, of boxes, and the first box run.
 #[derive(Clone, Copy, Debug, PartialEq, Eq)]
 pub struct Header {
-    // Kept: any byte, as `header_of` has it, since check 2 goes by it before check 3 looks at it.
+    // Kept, here and below: any byte, as `header_of` has it; check 2 goes by it before check 3.
     pub edition: u8,
     pub inputs: u8,
     pub boxes: u8,

@@ -18,6 +18,7 @@ struct CopyBox {
 fn box_at(table: &[u8; 2040], number: u8) -> Option<&[u8]>
     ensures { MatchOption result (box_of table.now number ≡ []) (λ b. (b.now ≡ box_of table.now number) × (length b.now ≡ 10)) }
 {
+    // Kept, here and below: a box is bytes of the table, the kind too, as the specs have it.
     let start = 10 * usize::from(number);
     table.get(start..start + 10)
 }
