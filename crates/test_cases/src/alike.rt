@@ -1,70 +1,66 @@
 // A chart and its converted one, each in a runner of its own: the same random calls to both, and
 // what they tell is compared.
-use crate::made::{Made, advance, begin, load};
-use crate::pair::Pair;
-use encoding::kinds;
-use runner::Runner;
+use crate::counts::count;
+use crate::pair::Difference;
+use crate::random_calls::Case;
+use block::Refusal;
+use runner::{Called, Runner};
 use test_samples::arguments;
+use test_samples::arguments::steps_within;
 use test_samples::files::byte;
-use test_samples::random::Random;
 use test_text::text::part;
 
 #[derive(Clone, Copy)]
 struct Two {
-    pair: Pair,
     original: Runner,
     converted: Runner,
 }
 
-// Both runners after one call, and what they told compared.
-fn both(mut two: Two, original: Made, converted: Made) -> Two {
-    let pair = two.pair.alike(original.told, converted.told);
-    let one = original.runner;
-    let other = converted.runner;
-    two.pair = pair;
-    two.original = one;
-    two.converted = other;
-    two
-}
-
-fn advances(two: Two, m: u32) -> Two {
-    both(two, advance(two.original, m), advance(two.converted, m))
+impl Two {
+    // One call to both, and what they told.
+    fn call<T: Copy, F: Fn(Runner) -> Called<T>>(&mut self, call: F) -> [Result<T, Refusal>; 2]
+        requires { F.IsAlwaysCallable call }
+    {
+        let original = call(self.original);
+        let converted = call(self.converted);
+        self.original = original.runner;
+        self.converted = converted.runner;
+        [original.told, converted.told]
+    }
 }
 
 // A begin, an advance by some boxes, one by the limit, which ends a run, and the answer.
-fn run(two: Two, random: &mut Random, k: u32) -> Two {
-    let a = arguments::begin(random, k);
-    let limit = arguments::steps_within(a.limit);
-    let begun = both(two, begin(two.original, &a), begin(two.converted, &a));
-    let some = advances(begun, arguments::amount(random, limit));
-    let mut all = advances(some, limit);
-    let first = encoding::of_answer(all.original.answer());
-    let second = encoding::of_answer(all.converted.answer());
-    let pair = all.pair.alike(first, second);
-    all.pair = pair;
-    all
+fn run(case: &mut Case, two: &mut Two) -> Result<(), Difference> {
+    let a = arguments::begin(case.random, byte(case.file, 5));
+    let limit = steps_within(a.limit);
+    let some = arguments::amount(case.random, limit);
+    let begun = two.call(|runner| runner.begin(a.mode, &a.inputs, a.allowed, a.limit));
+    case.pair.alike(begun)?;
+    case.pair.alike(two.call(|runner| runner.advance(some)))?;
+    case.pair.alike(two.call(|runner| runner.advance(limit)))?;
+    let ending = two.original.answer();
+    case.pair.alike([ending, two.converted.answer()])?;
+    if ending.is_ok() {
+        count(&mut case.pair.counts.alike);
+    }
+    Ok(())
 }
 
 // Three runs of a file's chart and of its converted one, where the file converts.
-pub fn runs(pair: Pair, random: &mut Random, file: &[u8]) -> Pair {
-    let mut other = [0u8; 2560];
-    let told = encoding::of_written(convert::convert(file, &mut other));
-    if told.kind != kinds::WRITTEN {
-        return pair;
-    }
-    let k = byte(file, 5);
-    let fresh = Two {
-        pair,
-        original: Runner::new(),
-        converted: Runner::new(),
+pub fn runs(case: &mut Case) -> Result<(), Difference> {
+    let mut buffer = [0; 2560];
+    let Ok(length) = convert::convert(case.file, &mut buffer) else {
+        return Ok(());
     };
-    let loaded = both(
-        fresh,
-        load(fresh.original, file),
-        load(fresh.converted, part(&other, 0, file.len())),
-    );
-    let one = run(loaded, random, k);
-    let two = run(one, random, k);
-    let three = run(two, random, k);
-    three.pair
+    let original = Runner::new().load(case.file);
+    let converted = Runner::new().load(part(&buffer, 0, length));
+    case.pair.alike([original.told, converted.told])?;
+    let mut two = Two {
+        original: original.runner,
+        converted: converted.runner,
+    };
+    for _ in 0..3 {
+        run(case, &mut two)?;
+    }
+    Ok(())
 }

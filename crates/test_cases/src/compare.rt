@@ -1,54 +1,61 @@
-// What the two sides tell, compared, and the charts that they hold. The model says the numbers of
-// `encoding` by itself.
-use encoding::{Encoded, kinds};
-use runner::Runner;
+// What the two sides tell and the charts that they hold, and how a chart's run and that of its
+// rewritten one may end.
+use block::Refusal;
+use encoding::Encoded;
+use runner::{Answered, Ending, Runner};
 use test_second::{Model, Numbers, Told};
 
+// What the model told, which says the numbers of `encoding` by itself.
+// Kept: no `From` can stand here, since both types are of other crates.
 pub fn of_model(told: Told) -> Encoded {
-    let numbers = Numbers::from(told);
-    encoding::make(numbers.kind, u64::from(numbers.first), numbers.second)
-}
-
-pub fn same(a: Encoded, b: Encoded) -> bool {
-    (a.kind == b.kind) & (a.first == b.first) & (a.second == b.second)
+    let Numbers {
+        kind,
+        first,
+        second,
+    } = told.into();
+    encoding::make(kind, u64::from(first), second)
 }
 
 // The file of the chart that a runner holds, with zeros after it.
 pub fn file_of(runner: Runner) -> [u8; 2560] {
-    let mut file = [0u8; 2560];
-    runner.write_back(&mut file);
+    let mut file = [0; 2560];
+    let _ = runner.write_back(&mut file);
     file
-}
-
-fn same_bytes(one: &[u8; 2560], two: &[u8; 2560]) -> bool {
-    check::same(one, two)
 }
 
 // Two runners hold one chart: they write back the same file.
 pub fn one_chart(a: Runner, b: Runner) -> bool {
-    let one = file_of(a);
-    let two = file_of(b);
-    same_bytes(&one, &two)
+    file_of(a) == file_of(b)
 }
 
-// The same of a runner and a model.
+// The same of a model and a runner.
 pub fn model_holds(model: Model, runner: Runner) -> bool {
-    let mut one = [0u8; 2560];
-    let _ = model.write_back(&mut one);
-    let two = file_of(runner);
-    same_bytes(&one, &two)
+    let mut file = [0; 2560];
+    let _ = model.write_back(&mut file);
+    file == file_of(runner)
 }
 
-// A run of a chart may end as `old` and, with the same arguments, one of its rewritten chart as
-// `new`. Where both have a value it is one value, in no more steps; a bare run keeps its value.
-// `equal` says that the chart is rewritten to itself.
-pub fn may_end(old: Encoded, new: Encoded, bare: bool, equal: bool) -> bool {
-    if equal | (old.kind == kinds::REFUSED) {
-        return same(old, new);
+// How a run of a chart and, with the same arguments, one of its rewritten chart end, or what
+// refuses their begins.
+#[derive(Clone, Copy)]
+pub struct Endings {
+    pub old: Result<Answered, Refusal>,
+    pub new: Result<Answered, Refusal>,
+    pub bare: bool,
+}
+
+impl Endings {
+    // Whether runs may end so. Where both have a value it is one value, in no more steps; a bare
+    // run keeps its value. `equal` says that the chart is rewritten to itself.
+    pub fn may_be(self, equal: bool) -> bool {
+        let (Ok(old), Ok(new)) = (self.old, self.new) else {
+            return self.old == self.new;
+        };
+        match (old.ending, new.ending) {
+            _ if equal => old == new,
+            (Ending::Value(one), Ending::Value(other)) => one == other && new.steps <= old.steps,
+            (Ending::Spent, Ending::Value(_) | Ending::Spent) => true,
+            _ => !self.bare,
+        }
     }
-    if (old.kind == kinds::VALUE) & (new.kind == kinds::VALUE) {
-        return (old.first == new.first) & (new.second <= old.second);
-    }
-    let goes_on = (old.kind == kinds::SPENT) & (new.kind != kinds::NOTICE);
-    (new.kind != kinds::REFUSED) & (!bare | goes_on)
 }

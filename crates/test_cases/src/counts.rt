@@ -1,142 +1,236 @@
-// Where each number of what was reached stands among the counts: refusals at their own numbers, 1
-// to 24, and then the others in the order in which they are printed.
-use encoding::{Encoded, kinds};
+// What the random cases reached.
+ghost use Rattle.std.specs.Prelude.{◌<◌};
 
-// Runs begun, by mode.
-pub const BEGUN: u32 = 25;
+use crate::compare::Endings;
+use block::Refusal;
+use runner::{Ending, Loaded};
+use std::fmt;
 
-// Runs ended with a value, by mode; then with a notice, and spent.
-pub const ENDED: u32 = 28;
+// Numbers by mode: bare, surveillance, high-water.
+#[derive(Clone, Copy, Default)]
+struct ByMode([u64; 3]);
 
-pub const DROPPED: u32 = 37;
+// Loads of files with two blocks exchanged.
+#[derive(Clone, Copy, Default)]
+struct Exchanged {
+    loaded: u64,
+    refused_by_2: u64,
+    refused_by_6: u64,
+}
 
-// Answers that are also those of the run advanced at once.
-const ANSWERS: u32 = 38;
+// Lists by edition have edition 1 first. `answers` are those that are also the answers of the runs
+// advanced at once. `loaded` is by blocks, from two on, and `named` of notices that name no input,
+// one, and more. `alike` are endings of a chart and of its converted one, which are one ending;
+// `changed` are rewritings after which another chart is held. `beside` are bare runs of a chart and
+// of its rewritten one that ended with one value, `fewer` those of them that took fewer steps, and
+// `gained` runs of both under surveillance that ended with a notice and with a value.
+#[derive(Clone, Copy, Default)]
+pub struct Counts {
+    refused: [u64; 25],
+    begun: ByMode,
+    values: ByMode,
+    notices: ByMode,
+    spent: ByMode,
+    pub dropped: u64,
+    pub answers: u64,
+    pub running: u64,
+    pub stopped: u64,
+    loaded: [u64; 4],
+    pub shown: u64,
+    pub not_shown: u64,
+    pub written: u64,
+    named: [u64; 3],
+    editions: [u64; 2],
+    exchanged: [Exchanged; 2],
+    converted: [u64; 2],
+    pub alike: u64,
+    pub rewritten: u64,
+    pub changed: u64,
+    beside: u64,
+    fewer: u64,
+    gained: u64,
+}
 
-// Advances that told running or ended.
-const RUNNING: u32 = 39;
+pub fn count(number: &mut u64) {
+    *number = number.wrapping_add(1);
+}
 
-const STOPPED: u32 = 40;
-
-// Files loaded, from 1,024 bytes on by blocks.
-const LOADED: u32 = 41;
-
-const SHOWN: u32 = 45;
-
-const NOT_SHOWN: u32 = 46;
-
-const WRITTEN: u32 = 47;
-
-// Notices that name no input, one, and more.
-const NAMED: u32 = 48;
-
-// Files loaded, by edition.
-const EDITION: u32 = 51;
-
-// Loads of files with two blocks exchanged, by edition: loaded, refused by 2, and by 6.
-const EXCHANGED: u32 = 53;
-
-// Files converted, by the edition that they are of.
-const CONVERTED: u32 = 59;
-
-// Endings of a chart and of its converted one, which are one ending.
-pub const ALIKE: u32 = 61;
-
-// Rewritings, and those of them after which another chart is held.
-pub const REWRITTEN: u32 = 62;
-
-pub const CHANGED: u32 = 63;
-
-// Bare runs of a chart and of its rewritten one that ended with one value, and those of them that
-// took fewer steps; then runs under surveillance that ended with a notice on the chart and with a
-// value on its rewritten one.
-const BESIDE: u32 = 64;
-
-const FEWER: u32 = 65;
-
-const GAINED: u32 = 66;
-
-// Where a call is counted that told this; one that was just done is counted at `done`.
-pub fn place(t: Encoded, done: u32) -> u32 {
-    let kind = t.kind;
-    let first = (t.first % 64) as u32;
-    match kind {
-        kinds::DONE => done,
-        kinds::CHART => LOADED + (t.second % 256 + 50) / 51 - 1,
-        kinds::RUNNING => RUNNING,
-        kinds::ENDED => STOPPED,
-        kinds::REFUSED => first,
-        kinds::WRITTEN => WRITTEN,
-        kinds::SHOWN => if first == 0 { NOT_SHOWN } else { SHOWN },
-        _ => ANSWERS,
+fn count_at(numbers: &mut [u64], at: usize) {
+    if let Some(number) = numbers.get_mut(at) {
+        count(number);
     }
 }
 
-// Where an ending is counted by the inputs that it names; nowhere that is printed, where it is no
-// notice.
-pub fn named(t: Encoded) -> u32 {
-    if t.kind != kinds::NOTICE {
-        return 0;
-    }
-    let inputs = u32::count_ones(t.second);
-    if 1 < inputs {
-        return NAMED + 2;
-    }
-    if inputs == 1 { NAMED + 1 } else { NAMED }
+// Where the lists by edition have an edition.
+fn row(edition: u8) -> usize
+    ensures { result < 2 }
+{
+    usize::from(edition != 1)
 }
 
-// Where a load is counted by the edition of its file; nowhere that is printed, where it was
-// refused.
-pub fn edition(t: Encoded, edition: u32) -> u32 {
-    if t.kind != kinds::CHART {
-        return 0;
+impl Counts {
+    pub fn refuse(&mut self, refusal: Refusal) {
+        count_at(&mut self.refused, refusal.number as usize);
     }
-    if edition == 1 { EDITION } else { EDITION + 1 }
+
+    pub fn load(&mut self, chart: Loaded, edition: u8) {
+        let last = chart.boxes.saturating_sub(1);
+        count_at(&mut self.loaded, usize::from(last / 51));
+        count(&mut self.editions[row(edition)]);
+    }
+
+    // A load of a file with two blocks exchanged.
+    pub fn exchange(&mut self, told: Result<Loaded, Refusal>, edition: u8) {
+        let exchanged = &mut self.exchanged[row(edition)];
+        match told {
+            Ok(_) => count(&mut exchanged.loaded),
+            Err(Refusal { number: 2, .. }) => count(&mut exchanged.refused_by_2),
+            Err(Refusal { number: 6, .. }) => count(&mut exchanged.refused_by_6),
+            Err(_) => {}
+        }
+    }
+
+    pub fn begin(&mut self, mode: u32) {
+        count_at(&mut self.begun.0, mode as usize);
+    }
+
+    pub fn end(&mut self, mode: u32, ending: Ending) {
+        let by_mode = match ending {
+            Ending::Value(_) => &mut self.values,
+            Ending::Notice(named) => {
+                count_at(&mut self.named, named.count_ones().min(2) as usize);
+                &mut self.notices
+            }
+            Ending::Spent => &mut self.spent,
+        };
+        count_at(&mut by_mode.0, mode as usize);
+    }
+
+    pub fn convert(&mut self, edition: u8) {
+        count(&mut self.converted[row(edition)]);
+    }
+
+    pub fn beside(&mut self, endings: Endings) {
+        let (Ok(old), Ok(new)) = (endings.old, endings.new) else {
+            return;
+        };
+        match (old.ending, new.ending) {
+            (Ending::Value(_), Ending::Value(_)) if endings.bare => {
+                count(&mut self.beside);
+                if new.steps < old.steps {
+                    count(&mut self.fewer);
+                }
+            }
+            (Ending::Notice(_), Ending::Value(_)) => count(&mut self.gained),
+            _ => {}
+        }
+    }
 }
 
-// Where a conversion of a file of an edition is counted; a refusal at its number.
-pub fn converted(t: Encoded, edition: u32) -> u32 {
-    if t.kind == kinds::REFUSED {
-        return (t.first % 64) as u32;
-    }
-    if edition == 1 {
-        CONVERTED
-    } else {
-        CONVERTED + 1
+impl fmt::Display for ByMode {
+    fn fmt<W: fmt::Write>(&self, f: &mut fmt::Formatter<W>) -> fmt::Result {
+        let [bare, surveillance, high_water] = self.0;
+        write!(
+            f,
+            "bare {bare}, surveillance {surveillance}, high-water {high_water}"
+        )
     }
 }
 
-// Where a load of a file with two blocks exchanged is counted; nowhere that is printed, where a run
-// was under way.
-pub fn exchanged(t: Encoded, edition: u32) -> u32 {
-    let start = EXCHANGED + 3 * (1 - edition % 2);
-    if t.kind == kinds::CHART {
-        return start;
+impl fmt::Display for Exchanged {
+    fn fmt<W: fmt::Write>(&self, f: &mut fmt::Formatter<W>) -> fmt::Result {
+        let Exchanged {
+            loaded,
+            refused_by_2,
+            refused_by_6,
+        } = self;
+        write!(
+            f,
+            "loaded {loaded}, refused by 2 {refused_by_2}, by 6 {refused_by_6}"
+        )
     }
-    if t.first == 2 {
-        return start + 1;
-    }
-    if t.first == 6 { start + 2 } else { 0 }
 }
 
-// Where a chart's ending and its rewritten one's are counted; nowhere that is printed, where they
-// are of no such kind.
-pub fn beside(old: Encoded, new: Encoded, bare: bool) -> u32 {
-    if new.kind != kinds::VALUE {
-        return 0;
+impl Counts {
+    fn fmt_runs<W: fmt::Write>(&self, f: &mut fmt::Formatter<W>) -> fmt::Result {
+        writeln!(f, "runs begun: {}", self.begun)?;
+        writeln!(f, "ended with a value: {}", self.values)?;
+        writeln!(f, "ended with a notice: {}", self.notices)?;
+        writeln!(f, "ended spent: {}", self.spent)?;
+        writeln!(f, "dropped: {}", self.dropped)?;
+        writeln!(f, "answers compared: {}", self.answers)?;
+        writeln!(
+            f,
+            "advances: running {}, ended {}",
+            self.running, self.stopped
+        )
     }
-    if bare & (old.kind == kinds::VALUE) {
-        return BESIDE;
+
+    fn fmt_files<W: fmt::Write>(&self, f: &mut fmt::Formatter<W>) -> fmt::Result {
+        let [two, three, four, five] = self.loaded;
+        let [none, one, more] = self.named;
+        let [first, second] = self.editions;
+        let [exchanged, exchanged_in_2] = self.exchanged;
+        writeln!(
+            f,
+            "files loaded: 1024 bytes {two}, 1536 bytes {three}, 2048 bytes {four}, 2560 bytes {five}"
+        )?;
+        writeln!(
+            f,
+            "boxes: shown {}, not shown {}",
+            self.shown, self.not_shown
+        )?;
+        writeln!(f, "files written back: {}", self.written)?;
+        writeln!(
+            f,
+            "notices that name: no input {none}, one {one}, more {more}"
+        )?;
+        writeln!(f, "files loaded: edition 1 {first}, edition 2 {second}")?;
+        writeln!(f, "two blocks exchanged in edition 1: {exchanged}")?;
+        writeln!(f, "two blocks exchanged in edition 2: {exchanged_in_2}")
     }
-    if old.kind == kinds::NOTICE { GAINED } else { 0 }
+
+    fn fmt_charts<W: fmt::Write>(&self, f: &mut fmt::Formatter<W>) -> fmt::Result {
+        let [first, second] = self.converted;
+        writeln!(
+            f,
+            "files converted: from edition 1 {first}, from edition 2 {second}"
+        )?;
+        writeln!(
+            f,
+            "endings of a chart and of its converted one: {}",
+            self.alike
+        )?;
+        writeln!(
+            f,
+            "rewritings: done {}, of which {} changed the chart",
+            self.rewritten, self.changed
+        )?;
+        writeln!(
+            f,
+            "bare runs of a chart and of its rewritten one: ended with one value {}, of which {} in fewer steps",
+            self.beside, self.fewer
+        )?;
+        writeln!(
+            f,
+            "surveillance runs of both: ended with a notice of the chart and a value of its rewritten one {}",
+            self.gained
+        )
+    }
 }
 
-// The same by the steps that they took.
-pub fn fewer(old: Encoded, new: Encoded, bare: bool) -> u32 {
-    let values = (old.kind == kinds::VALUE) & (new.kind == kinds::VALUE);
-    if bare & values & (new.second < old.second) {
-        FEWER
-    } else {
-        0
+// A line for each number, and then one for each refusal: 11 is the run program's, and none has a
+// number from 16 to 20.
+impl fmt::Display for Counts {
+    fn fmt<W: fmt::Write>(&self, f: &mut fmt::Formatter<W>) -> fmt::Result {
+        self.fmt_runs(f)?;
+        self.fmt_files(f)?;
+        self.fmt_charts(f)?;
+        for (number, count) in self.refused.iter().enumerate() {
+            if matches!(number, 1..=10 | 12..=15 | 21..=24) {
+                writeln!(f, "refused {number}: {count}")?;
+            }
+        }
+        Ok(())
     }
 }

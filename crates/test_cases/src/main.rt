@@ -9,18 +9,18 @@ mod beside;
 mod commands;
 mod compare;
 mod counts;
-mod made;
 mod pair;
 mod random_calls;
 mod report;
 
-use pair::Pair;
+use counts::Counts;
+use pair::{Difference, Pair};
+use random_calls::Case;
+use report::Failure;
 use std::io;
 use test_samples::damage;
-use test_samples::files::File;
 use test_samples::random::Random;
 use test_text::input;
-use test_text::print::say;
 
 // Where the random numbers start.
 const SEED: u64 = 88172645463325252;
@@ -30,51 +30,48 @@ const CASES: u32 = 100000;
 
 // A chart's file and a list of calls with it; at times the chart is run beside its converted one or
 // its rewritten one. The pair is often the one that the case before left.
-fn random_case(pair: Pair, random: &mut Random) -> Pair {
-    if !pair.same {
-        return pair;
-    }
+fn random_case(pair: &mut Pair, random: &mut Random, number: u32) -> Result<(), Difference> {
     let drawn = damage::draw(random);
-    let file = drawn.bytes.as_slice();
-    let now = if random.one_in(8) { pair.renew() } else { pair };
-    let after = random_calls::list(now.of_file(drawn.exchanged), random, file);
-    match random.below(4) {
-        0 => alike::runs(after, random, file),
-        1 => beside::runs(after, random, file),
-        _ => after,
+    if random.one_in(8) {
+        pair.renew();
+    }
+    pair.start(number, drawn.exchanged);
+    let mut case = Case {
+        pair,
+        random,
+        file: &drawn.bytes,
+    };
+    case.list()?;
+    match case.random.below(4) {
+        0 => alike::runs(&mut case),
+        1 => beside::runs(&mut case),
+        _ => Ok(()),
     }
 }
 
-fn random_cases() -> Pair {
+fn random_cases() -> Result<Counts, Difference> {
     let mut random = Random::new(SEED);
-    let mut p = pair::new();
-    for case in 1..CASES {
-        p = random_case(p.at_case(case), &mut random);
+    let mut pair = Pair::new();
+    for number in 1..CASES {
+        random_case(&mut pair, &mut random, number)?;
     }
-    p
+    Ok(pair.counts)
 }
 
-// The cases of standard input, which has room for fewer than 65,536 bytes.
-fn fixed_cases(rt: &(impl Input + Print + AllocGlobal), file: &mut File) -> io::Result<bool> {
-    let text = input::read(rt, 65536)?;
-    if text.len() == 65536 {
-        say(rt, b"standard input is too long\n")?;
-        return Ok(false);
-    }
-    commands::run(rt, &text, file)
+// The fixed cases, which a text has, and the random ones.
+fn cases<'a>(rt: &impl Print, text: &'a [u8]) -> Result<Counts, Failure<'a>> {
+    commands::run(rt, text)?;
+    Ok(random_cases()?)
 }
 
+// Standard input has room for fewer than 65,536 bytes.
 fn main(rt: HostRuntime) -> io::Result<()> {
-    let mut file: File = [0; 3072];
-    if !fixed_cases(&rt, &mut file)? {
-        return Ok(());
+    let text = input::read(&rt, 65536)?;
+    if text.len() == 65536 {
+        return println!(&rt; "standard input is too long");
     }
-    let p = random_cases();
-    p.tell(&rt)?;
-    if p.same {
-        let counts = p.counts;
-        report::totals(&rt, &counts)?;
-        say(&rt, b"no difference\n")?;
+    match cases(&rt, &text) {
+        Ok(counts) => println!(&rt; "{counts}no difference"),
+        Err(failure) => failure.print(&rt),
     }
-    Ok(())
 }

@@ -1,70 +1,74 @@
 // Random calls in random order with random arguments.
-use crate::pair::Pair;
+use crate::pair::{Difference, Pair};
 use test_samples::arguments;
 use test_samples::files::{byte, low};
 use test_samples::random::Random;
 
-fn begin(pair: Pair, random: &mut Random) -> Pair {
-    let a = arguments::begin(random, pair.inputs);
-    pair.begin(a.mode, a.inputs.as_slice(), a.allowed, a.limit)
+// A random case: the pair, the random numbers, and a file, which may be a chart's.
+#[derive(Drop)]
+pub struct Case<'a> {
+    pub pair: &'a mut Pair,
+    pub random: &'a mut Random,
+    pub file: &'a [u8],
 }
 
-// In a part of the buffer that starts anywhere.
-fn write_back(pair: Pair, random: &mut Random) -> Pair {
-    let room = arguments::room(random, pair.boxes);
-    let from = random.index(40);
-    let byte = low(random.next());
-    pair.write_back(from, room, byte)
-}
+impl Case<'_> {
+    fn begin(&mut self) -> Result<(), Difference> {
+        let inputs = u32::from(self.pair.chart.inputs);
+        let a = arguments::begin(self.random, inputs);
+        self.pair.begin(&a)
+    }
 
-fn convert(pair: Pair, random: &mut Random, file: &[u8]) -> Pair {
-    let room = arguments::room(random, byte(file, 6));
-    let from = random.index(40);
-    let filled = low(random.next());
-    pair.convert(file, from, room, filled)
-}
+    // In a part of the buffer that starts anywhere.
+    fn write_back(&mut self) -> Result<(), Difference> {
+        let boxes = u32::from(self.pair.chart.boxes);
+        let room = arguments::room(self.random, boxes);
+        let from = self.random.index(40);
+        let filled = low(self.random.next());
+        self.pair.write_back(from, room, filled)
+    }
 
-fn call(pair: Pair, random: &mut Random, file: &[u8]) -> Pair {
-    if !pair.same {
-        return pair;
+    fn convert(&mut self) -> Result<(), Difference> {
+        let room = arguments::room(self.random, byte(self.file, 6));
+        let from = self.random.index(40);
+        let filled = low(self.random.next());
+        self.pair.convert(self.file, from, room, filled)
     }
-    let kind = random.below(34);
-    if kind < 2 {
-        return pair.load(file);
-    }
-    if kind < 12 {
-        return begin(pair, random);
-    }
-    if kind < 24 {
-        return pair.advance(arguments::amount(random, pair.limit));
-    }
-    if kind < 26 {
-        return pair.answer();
-    }
-    if kind == 26 {
-        return pair.abandon();
-    }
-    if kind < 29 {
-        return write_back(pair, random);
-    }
-    if kind == 29 {
-        return convert(pair, random, file);
-    }
-    if kind < 32 {
-        return pair.rewrite();
-    }
-    pair.show(file, arguments::number(random, file))
-}
 
-// A load, mostly with no run under way, and then calls of every kind.
-pub fn list(pair: Pair, random: &mut Random, file: &[u8]) -> Pair {
-    let mut p = pair;
-    if !random.one_in(4) {
-        p = p.abandon();
+    fn advance(&mut self) -> Result<(), Difference> {
+        let m = arguments::amount(self.random, self.pair.limit);
+        self.pair.advance(m)
     }
-    p = p.load(file);
-    for _ in 0..24u32 {
-        p = call(p, random, file);
+
+    fn show(&mut self) -> Result<(), Difference> {
+        let number = arguments::number(self.random, self.file);
+        self.pair.show(self.file, number)
     }
-    p
+
+    // Kept: a call is drawn as a number, and a match gives each its share.
+    fn call(&mut self) -> Result<(), Difference> {
+        match self.random.below(34) {
+            0..=1 => self.pair.load(self.file),
+            2..=11 => self.begin(),
+            12..=23 => self.advance(),
+            24..=25 => self.pair.answer(),
+            26 => self.pair.abandon(),
+            27..=28 => self.write_back(),
+            29 => self.convert(),
+            30..=31 => self.pair.rewrite(),
+            _ => self.show(),
+        }
+    }
+
+    // A load, mostly with no run under way, and then calls of every kind.
+    pub fn list(&mut self) -> Result<(), Difference> {
+        if !self.random.one_in(4) {
+            self.pair.abandon()?;
+        }
+        self.pair.load(self.file)?;
+        for _ in 0..24 {
+            self.call()?;
+        }
+        Ok(())
+    }
 }

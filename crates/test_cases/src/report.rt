@@ -1,96 +1,90 @@
-// What the program prints: cases, differences, and what was reached.
-use encoding::Encoded;
-use std::io;
-use test_text::print::{at, fill, say};
-use test_text::text::piece;
+// What the program prints: cases, and what ended them.
+use crate::pair::Difference;
+use encoding::{Encoded, kinds};
+use std::{fmt, io};
+use test_text::print::say;
 
-// What a call told, in the words of the run program: a line of `texts` for each kind, in the order
-// of their numbers.
-fn print_told(rt: &impl Print, t: Encoded) -> io::Result<()> {
-    let texts = b"done
-chart inputs % boxes %
-running steps %
-ended steps %
-value % steps %
-notice steps % inputs %
-spent steps %
-refused % detail %
-written %
-shown bytes % kind %";
-    let numbers = [t.first, t.second as u64];
-    fill(rt, piece(texts, t.kind as usize, b'\n'), &numbers)
-}
+// What a call told, in the words of the run program.
+#[derive(Clone, Copy)]
+pub struct Told(pub Encoded);
 
-pub fn case(rt: &impl Print, name: &[u8], t: Encoded) -> io::Result<()> {
-    say(rt, name)?;
-    say(rt, b": ")?;
-    print_told(rt, t)?;
-    say(rt, b"\n")
-}
-
-// A case that told something else than is expected.
-pub fn unexpected(rt: &impl Print, name: &[u8], expected: Encoded, t: Encoded) -> io::Result<()> {
-    say(rt, b"difference: ")?;
-    case(rt, name, expected)?;
-    case(rt, b"  told", t)
-}
-
-// A difference at a call of a random case; the fixed cases are case 0.
-pub fn difference(
-    rt: &impl Print,
-    what: &[u8],
-    number: u32,
-    call: u32,
-    first: Encoded,
-    second: Encoded,
-) -> io::Result<()> {
-    say(rt, b"difference: ")?;
-    say(rt, what)?;
-    fill(rt, b", case %, call %\n", &[number as u64, call as u64])?;
-    case(rt, b"  one", first)?;
-    case(rt, b"  other", second)
-}
-
-// The numbers 1 to 24, but 11, which is the run program's, and those that no refusal has.
-fn is_refusal(i: u64) -> bool {
-    (i <= 10) | ((12 <= i) & (i <= 15)) | (20 < i)
-}
-
-fn refusals(rt: &impl Print, counts: &[u64; 72]) -> io::Result<()> {
-    for i in 1..25 {
-        if is_refusal(i) {
-            fill(rt, b"refused %: %\n", &[i, at(counts, i as usize)])?;
+impl fmt::Display for Told {
+    fn fmt<W: fmt::Write>(&self, f: &mut fmt::Formatter<W>) -> fmt::Result {
+        let Encoded {
+            kind,
+            first,
+            second,
+        } = self.0;
+        match kind {
+            kinds::DONE => f.write_str("done"),
+            kinds::CHART => write!(f, "chart inputs {first} boxes {second}"),
+            kinds::RUNNING => write!(f, "running steps {first}"),
+            kinds::ENDED => write!(f, "ended steps {first}"),
+            kinds::VALUE => write!(f, "value {first} steps {second}"),
+            kinds::NOTICE => write!(f, "notice steps {first} inputs {second}"),
+            kinds::SPENT => write!(f, "spent steps {first}"),
+            kinds::REFUSED => write!(f, "refused {first} detail {second}"),
+            kinds::WRITTEN => write!(f, "written {first}"),
+            kinds::SHOWN => write!(f, "shown bytes {first} kind {second}"),
+            _ => Ok(()),
         }
     }
-    Ok(())
 }
 
-// What the random cases reached.
-pub fn totals(rt: &impl Print, counts: &[u64; 72]) -> io::Result<()> {
-    let all: &[u64] = counts;
-    fill(
-        rt,
-        b"runs begun: bare %, surveillance %, high-water %
-ended with a value: bare %, surveillance %, high-water %
-ended with a notice: bare %, surveillance %, high-water %
-ended spent: bare %, surveillance %, high-water %
-dropped: %
-answers compared: %
-advances: running %, ended %
-files loaded: 1024 bytes %, 1536 bytes %, 2048 bytes %, 2560 bytes %
-boxes: shown %, not shown %
-files written back: %
-notices that name: no input %, one %, more %
-files loaded: edition 1 %, edition 2 %
-two blocks exchanged in edition 1: loaded %, refused by 2 %, by 6 %
-two blocks exchanged in edition 2: loaded %, refused by 2 %, by 6 %
-files converted: from edition 1 %, from edition 2 %
-endings of a chart and of its converted one: %
-rewritings: done %, of which % changed the chart
-bare runs of a chart and of its rewritten one: ended with one value %, of which % in fewer steps
-surveillance runs of both: ended with a notice of the chart and a value of its rewritten one %
-",
-        &all[25..67],
-    )?;
-    refusals(rt, counts)
+// Why the cases end before all are done: the two sides differ; a case told something else than its
+// line says; a line is no command, or says what is not so, after so many calls; or standard output
+// fails.
+#[derive(Drop)]
+pub enum Failure<'a> {
+    Difference(Difference),
+    Unexpected {
+        name: &'a [u8],
+        expected: Encoded,
+        told: Encoded,
+    },
+    WrongLine {
+        line: &'a [u8],
+        calls: u32,
+    },
+    Output(io::Error),
+}
+
+impl From<Difference> for Failure<'_> {
+    fn from(difference: Difference) -> Self {
+        Failure::Difference(difference)
+    }
+}
+
+impl From<io::Error> for Failure<'_> {
+    fn from(error: io::Error) -> Self {
+        Failure::Output(error)
+    }
+}
+
+pub fn case(rt: &impl Print, name: &[u8], told: Encoded) -> io::Result<()> {
+    say(rt, name)?;
+    println!(rt; ": {}", Told(told))
+}
+
+impl Failure<'_> {
+    pub fn print(self, rt: &impl Print) -> io::Result<()> {
+        match self {
+            Failure::Difference(difference) => println!(rt; "difference: {difference}"),
+            Failure::Unexpected {
+                name,
+                expected,
+                told,
+            } => {
+                print!(rt; "difference: ")?;
+                case(rt, name, expected)?;
+                case(rt, b"  told", told)
+            }
+            Failure::WrongLine { line, calls } => {
+                print!(rt; "difference: ")?;
+                say(rt, line)?;
+                println!(rt; ", case 0, call {calls}\n  one: done\n  other: done")
+            }
+            Failure::Output(error) => Err(error),
+        }
+    }
 }
