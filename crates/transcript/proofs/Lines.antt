@@ -1,8 +1,11 @@
 -- Laws of the lines of some bytes, for lines that may lack their newline and for those that may
 -- not: the first line, by the place of the first newline (first_line, last_line_lem) and by what is
 -- known of the lines (peel), with bytes that come later. Assumes nothing.
-use Rattle.std.proofs.Common.{◌≡◌, ℕ, suc, ◌+◌, ◌-◌, ◌<◌, ◌≤◌, ◌⊎◌, inl, inr, ltb, Some, None, not, Bool, true, false, cond, eqb, List, [], ◌∷◌, ◌++◌, length, take, drop, sym, refl, ap, ◌∙◌, arith, take_all, length-drop, one-add}
+use Rattle.std.proofs.Common.{◌≡◌, ℕ, suc, ◌+◌, ◌-◌, ◌<◌, ◌≤◌, ◌⊎◌, inl, inr, ltb, Option, Some, None, not, Bool, true, false, cond, eqb, List, [], ◌∷◌, ◌++◌, length, take, drop, sym, refl, ap, ◌∙◌, arith, take_all, length-drop, one-add}
 use borrow.Author.Tests.{eqb-true, ltb-true, ltb-false}
+use Rattle.std.proofs.lemmas.Bool.{false_from_ne_true, lt-ltb, le-ltb}
+use Rattle.std.proofs.lemmas.List.Sums.{position_or_len_is}
+use Rattle.memchr.specs.Find.{IsFirstByte, is_byte}
 use Rattle.std.specs.List.{position_or_len, position}
 use Rattle.transcript.specs.Lines.{prefixed, lines_in, lines_of, whole_lines}
 
@@ -155,3 +158,14 @@ fewer_whole (b ∷ bytes) = by (eqb b 10) (whole_lines bytes) (lines_of bytes) (
     by false [] all l = omega arith
     by false (x ∷ whole) [] l = absurd (omega arith)
     by false (x ∷ whole) (y ∷ all) l = omega arith
+
+-- The first newline, as `memchr` finds it.
+pub found_place : (bytes : List ℕ) (r : Option ℕ) → IsFirstByte (is_byte 10) bytes r → position (λ (b : ℕ). eqb b 10) bytes ≡ r
+found_place bytes None h =
+    let none : newline_at bytes ≡ length bytes
+    = position_or_len_is (λ (b : ℕ). eqb b 10) bytes (length bytes) 0 (omega arith) (λ k l. false_from_ne_true _ (h k (omega arith) l)) (λ l. absurd (omega arith)) in
+    rw (none, le-ltb (length bytes) (length bytes) (omega arith)) refl
+found_place bytes (Some k) h =
+    let one : newline_at bytes ≡ k
+    = position_or_len_is (λ (b : ℕ). eqb b 10) bytes k 0 (omega (arith, h.0.high)) (λ i l. false_from_ne_true _ (h.0.before i (omega arith) l)) (λ l. h.1) in
+    rw (one, lt-ltb k (length bytes) h.0.high) refl

@@ -44,7 +44,7 @@ fn split_line(bytes: &[u8], over: bool) -> Option<(&[u8], &[u8])>
     ensures line { MatchOption result (lines_in over bytes.now ≡ []) (λ cut. lines_in over bytes.now ≡ cut.0.now ∷ lines_in over cut.1.now) }
     ensures rest { IfSome result (λ cut. cut.1.now ≡ drop (length cut.0.now + 1) bytes.now) }
 {
-    match bytes.iter().position(|&b| b == b'\n') {
+    match memchr::memchr(b'\n', bytes) {
         Some(end) => Some((&bytes[..end], &bytes[end + 1..])),
         None if over && !bytes.is_empty() => Some((bytes, &[])),
         None => None,
