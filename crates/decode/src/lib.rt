@@ -4,6 +4,7 @@
 ghost use Rattle.std.specs.Prelude.{◌*◌, min, ◌≡◌};
 ghost use Rattle.decode.specs.Decode.{box_from};
 
+// Kept: operations and comparisons are bytes, since a box of the table may have any (`box_from`).
 #[derive(Clone, Copy, Debug, PartialEq, Eq)]
 pub enum FlowBox {
     Assign {
@@ -42,16 +43,17 @@ pub fn half_of(p: u8) -> usize
     5 * usize::from(p)
 }
 
-// The same of the 204 places, by which a run begins: if it began by `half_of`, as it goes on, the
-// compiler would take p along and not its half.
+// The same of the 204 places, by which a run begins. Kept: the lesser is taken of the halves and
+// not of p and 204, by which the compiler takes p along and not its half: a box then takes half as
+// long again (`bench/run`).
 pub fn first_half(p: u8) -> usize
     ensures { result ≡ 5 * min p 204 }
 {
-    half_of(p.min(204))
+    half_of(p).min(1020)
 }
 
 // The box that starts at twice `half`; a halt where the table has no ten bytes there. A kind that
-// no box has reads as a halt.
+// no box has reads as a halt. Kept: a table of bytes, ten for each box, as 01 has the runner.
 #[tactic(auto, using(crate::proofs::Decoded::decoded))]
 pub fn box_at(table: &[u8; 2040], half: usize) -> FlowBox
     ensures { result ≡ box_from table.now (2 * half) }
@@ -60,9 +62,10 @@ pub fn box_at(table: &[u8; 2040], half: usize) -> FlowBox
         return FlowBox::Halt;
     }
     let i = 2 * half;
+    let kind = table[i];
     // The number of the next box is read before anything is asked, since the next box waits for it.
     let next = table[i + 5];
-    match table[i] {
+    match kind {
         1 => FlowBox::Assign {
             target: table[i + 1],
             op: table[i + 2],

@@ -1,8 +1,10 @@
 // What one box of a chart does, by the edition of the chart, the mode and its masks, the
 // variables, their marks and the counter mark.
+// Kept: editions, operations and comparisons are bytes, since any byte is promised an act
+// (`run_box`).
 #![tactic(auto)]
 
-ghost use Rattle.std.specs.Prelude.{◌≡◌, [], ◌∷◌};
+ghost use Rattle.std.specs.Prelude.{◌≡◌, ◌%◌, [], ◌∷◌};
 ghost use Rattle.operations.specs.Operation.{read_by, value_of, chosen};
 ghost use Rattle.decode.specs.Decode.{meaning};
 ghost use Rattle.marks.specs.Marks.{mode_in, union, set_by};
@@ -38,6 +40,7 @@ struct Marked {
 }
 
 impl Marked {
+    // Kept: the name and both fields of a literal take four lines in each of fourteen places.
     fn new(value: u32, mark: u16) -> Marked
         ensures { result ≡ record { value = value; mark = mark } }
     {
@@ -47,6 +50,7 @@ impl Marked {
 
 // What an operation gives of its constant and its left and right operands, and the union of the
 // marks that it reads; what it does not read does not matter.
+// Kept: a match, whose arms are one call each.
 #[tactic(auto, using(crate::proofs::Acts::reads), unfolding(operations::specs::Operation::read_by, operations::specs::Operation::value_of, operations::specs::Operation::value_of_left, operations::specs::Operation::value_of_both, marks::specs::Marks::union))]
 fn operate(edition: u8, op: u8, constant: u32, left: Marked, right: Marked) -> Marked
     ensures value { result.value ≡ value_of edition op constant (read_by edition op left.value right.value) }
@@ -78,7 +82,14 @@ fn operate(edition: u8, op: u8, constant: u32, left: Marked, right: Marked) -> M
     }
 }
 
-// The 32 variables and their marks, by number.
+// Where a variable stands among the 32, by its number.
+fn place(v: u8) -> usize
+    ensures { result ≡ v % 32 }
+{
+    usize::from(v % 32)
+}
+
+// The 32 variables and their marks, by number. Kept: two arrays, as 01 has the runner.
 #[derive(Clone, Copy)]
 pub struct Variables<'a> {
     pub values: &'a [u32; 32],
@@ -86,27 +97,16 @@ pub struct Variables<'a> {
 }
 
 impl Variables<'_> {
-    fn value(self, v: u8) -> u32
-        ensures { result ≡ entry self.entry.values.now v }
-    {
-        self.values[usize::from(v % 32)]
-    }
-
-    fn mark(self, v: u8) -> u16
-        ensures { result ≡ entry self.entry.marks.now v }
-    {
-        self.marks[usize::from(v % 32)]
-    }
-
     fn variable(self, v: u8) -> Marked
         ensures value { result.value ≡ entry self.entry.values.now v }
         ensures mark { result.mark ≡ entry self.entry.marks.now v }
     {
-        Marked::new(self.value(v), self.mark(v))
+        let i = place(v);
+        Marked::new(self.values[i], self.marks[i])
     }
 
     // What a choice gives: the value of one variable or of the other, by the comparison, and the
-    // union of all four marks, whichever is copied.
+    // union of all four marks, whichever is copied. Kept: the fields of a choice, handed on once.
     #[tactic(auto, using(crate::proofs::Acts::reads), unfolding(operations::specs::Operation::chosen, operations::specs::Operation::compares, marks::specs::Marks::union))]
     fn choose(self, comparison: u8, left: u8, right: u8, one: u8, other: u8) -> Marked
         ensures value { result.value ≡ chosen comparison (entries self.entry.values.now (left ∷ right ∷ one ∷ other ∷ [])) }
@@ -114,12 +114,14 @@ impl Variables<'_> {
     {
         let left = self.variable(left);
         let right = self.variable(right);
-        let read = left.mark | (right.mark | (self.mark(one) | self.mark(other)));
+        let i = place(one);
+        let j = place(other);
+        let read = left.mark | (right.mark | (self.marks[i] | self.marks[j]));
         // Of the two values only the one that is copied is loaded.
         if operations::compare(comparison, left.value, right.value) {
-            return Marked::new(self.value(one), read);
+            return Marked::new(self.values[i], read);
         }
-        Marked::new(self.value(other), read)
+        Marked::new(self.values[j], read)
     }
 
     // What a box that assigns does, of what it gives: it stores the value, and sets its target's
@@ -130,14 +132,15 @@ impl Variables<'_> {
         Act::Store {
             target,
             value: given.value,
-            mark: marks::set_mark(masks, self.mark(target), given.mark),
+            mark: marks::set_mark(masks, self.marks[place(target)], given.mark),
             next,
         }
     }
 }
 
 // What the box does; an assignment sets its target's mark by the masks. By those of the mode this
-// is the box's act by the rules (`act`).
+// is the box's act by the rules (`act`). Kept: the mode beside its masks, which are settled once
+// for many boxes; and 0 for no notice, as in `marks`.
 #[tactic(auto, using(crate::proofs::Acts::reads), unfolding(decode::specs::Decode::meaning, crate::specs::Act::act_by, marks::specs::Marks::union))]
 pub fn run_box(
     edition: u8,

@@ -1,6 +1,8 @@
 // The modes: what an assignment leaves on its target, what a decision and a halt do, and whether
 // counts are hidden. A mark is a set of withheld inputs, a number whose bit j is input j; 0 is no
 // mark.
+// Kept: that 0 is for no notice, since it is the empty set of inputs and no mark beside the sets
+// (`decision_notice` and `halt_notice` in specs/Marks.antt).
 #![tactic(auto)]
 
 ghost use Rattle.std.specs.Prelude.{◌≡◌};
@@ -26,7 +28,7 @@ impl From<u8> for Mode {
     }
 }
 
-// A rule by the mode.
+// A rule by the mode. Kept: a match, whose arms are one value each.
 fn by_mode(mode: Mode, bare: u16, surveillance: u16, high: u16) -> u16
     ensures { result ≡ by_mode (mode_in mode) bare surveillance high }
 {
@@ -84,7 +86,8 @@ pub fn halt_notice(mode: Mode, counter: u16, output: u16) -> u16
     by_mode(mode, 0, output, counter | output)
 }
 
-// The set that a notice carries, which is given for these marks.
+// The set that a notice carries, which is given for these marks. Kept: `decision_notice` is another
+// rule of the same form, and each has its own definition.
 pub fn named_by(mode: Mode, marks: u16) -> u16
     ensures { result ≡ named_by (mode_in mode) marks }
 {

@@ -1,19 +1,21 @@
 // Operations 2 to 6, and the three comparisons. `machine::operate` has the others, over std's
 // lesser and greater, one bits, leading and trailing zeros.
+// Kept: editions, operations and comparisons are bytes, since any byte of a table is promised an
+// answer (`value_of_left` and `compares` say what one above the last means).
 #![tactic(auto)]
 
 ghost use Rattle.std.specs.Prelude.{◌≡◌, ◌*◌, ◌%◌, ◌^◌, [], ◌∷◌};
 ghost use Rattle.operations.specs.Operation.{sum, difference, quotient, remainder, compares};
-
-// Kept: editions, operations and comparisons are bytes, since each function takes any byte of a
-// table (`read_by` and `compares` say what one above the last means).
 
 // The sum modulo 4,294,967,296; in edition 2 the greatest number where the true sum is larger.
 #[tactic(auto, unfolding(crate::specs::Operation::sum))]
 pub fn sum(edition: u8, a: u32, b: u32) -> u32
     ensures { result ≡ sum edition a b }
 {
-    if edition == 2 { a.saturating_add(b) } else { a.wrapping_add(b) }
+    // Both are there before one is taken, so that the compiler makes no branch.
+    let capped = a.saturating_add(b);
+    let wrapped = a.wrapping_add(b);
+    if edition == 2 { capped } else { wrapped }
 }
 
 // The difference modulo 4,294,967,296; in edition 2 0 where right exceeds left.
@@ -21,10 +23,12 @@ pub fn sum(edition: u8, a: u32, b: u32) -> u32
 pub fn difference(edition: u8, a: u32, b: u32) -> u32
     ensures { result ≡ difference edition a b }
 {
-    if edition == 2 { a.saturating_sub(b) } else { a.wrapping_sub(b) }
+    let capped = a.saturating_sub(b);
+    let wrapped = a.wrapping_sub(b);
+    if edition == 2 { capped } else { wrapped }
 }
 
-// The product modulo 4,294,967,296, over u64.
+// The product modulo 4,294,967,296. Kept: over u64, as 01 has it.
 pub fn product(a: u32, b: u32) -> u32
     ensures { result ≡ a * b % 2 ^ 32 }
 {
@@ -48,7 +52,7 @@ pub fn remainder(a: u32, b: u32) -> u32
     a.checked_rem(b).unwrap_or(a)
 }
 
-// Whether a comparison holds of two values.
+// Whether a comparison holds of two values. Kept: a match, whose arms are one test each.
 #[tactic(auto, unfolding(crate::specs::Operation::compares))]
 pub fn compare(comparison: u8, a: u32, b: u32) -> bool
     ensures { result ≡ compares comparison (a ∷ b ∷ []) }
