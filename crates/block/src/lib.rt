@@ -39,6 +39,7 @@ pub enum Reason {
 }
 
 impl Refusal {
+    // Kept: public, with a clause of its own; its fields' names in each arm would be no plainer.
     pub fn new(number: u32, detail: u32) -> Refusal
         ensures { result ≡ refusal number detail }
     {

@@ -63,6 +63,7 @@ pub fn file_length(header: Header) -> usize
 
 // The file of a chart at the front of a lent buffer that has room for it, each block in its own
 // part; another buffer is left as it was.
+// Kept, here and in `write_block`: header and table, as the runner holds them by document 01.
 #[tactic(auto, unfolding(crate::specs::WriteBack::put_file))]
 pub fn put_file(header: Header, table: &[u8; 2040], buf: &mut [u8])
     ensures { buf.new ≡ put_file header table.now buf.old }

@@ -13,6 +13,7 @@ use block::Refusal;
 use runner::{Advanced, Answered, Ending, Loaded};
 
 // A kind, one of `kinds`, and its two values.
+// Kept, here and in `make`: a number for the kind, since callers in C read it (see `kinds`).
 #[derive(Clone, Copy, Debug, PartialEq, Eq)]
 pub struct Encoded {
     pub kind: u32,
@@ -20,6 +21,7 @@ pub struct Encoded {
     pub second: u32,
 }
 
+// Kept: a constructor of three numbers, since it is public and its clause is what callers go by.
 pub fn make(kind: u32, first: u64, second: u32) -> Encoded
     ensures { result ≡ numbers kind first second }
 {

@@ -8,6 +8,7 @@ use arrayvec::ArrayVec;
 pub type Numbers = ArrayVec<u32, 19>;
 
 // The number that a part of a line is.
+// Kept: read by hand, since `parse` of std would take a plus sign too.
 #[tactic(auto, using(crate::proofs::Digits::at_each_byte))]
 fn number(part: &[u8]) -> Option<u32>
     ensures { result ≡ (if is_number part.now then Some (number_of part.now) else None) }

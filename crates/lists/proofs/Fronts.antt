@@ -1,11 +1,10 @@
--- What stands at the front of a list: one list after another (then_front), a number after a list
--- (end_front), and the first numbers of a list in a part that is as long (fits_part). Assumes
--- nothing.
-use Prim.Native.Nat.{ℕ, suc, ◌+◌, ◌-◌, ◌≤◌, ◌<◌}
+-- What stands at the front of a list: one list after another (then_front), and a number after a
+-- list (end_front). Assumes nothing.
+use Prim.Native.Nat.{ℕ, suc, ◌-◌, ◌≤◌, ◌<◌}
 use mathlib.Core.Path.{◌≡◌, ap, sym, ◌∙◌}
 use mathlib.Core.List.{List, [], ◌∷◌, ◌++◌}
 use native.Mathlib.Omega.{arith}
-use lib.ListN.{length, take, drop, set, length-append, length-take, length-drop, get_or}
+use lib.ListN.{length, take, drop, set, length-append, get_or}
 use lib.Seq.{drop-drop, drop-cons, set_at, append_snoc}
 use borrow.Rule.Slice.PartMut.{put_mid}
 use Rattle.lists.proofs.Stores.{put_front}
@@ -36,5 +35,3 @@ end_front p out one x a e h l =
     ∙ ap (λ (k : ℕ). (p ++ (x ∷ [])) ++ drop k out) longer
 
 -- The first bytes of a text fit into a part that is as long.
-pub fits_part : (text one : List ℕ) (count a k : ℕ) → count ≤ k → a + k ≤ length one → length (take count text) ≤ length (take k (drop a one))
-fits_part text one count a k q l = simp (length-take, length-drop) (omega arith)

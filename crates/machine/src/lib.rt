@@ -152,6 +152,7 @@ pub fn run_box(
 ) -> Act
     ensures { result ≡ act_by (set_by masks) (mode_in mode) (meaning edition b) variables.entry.values.now variables.entry.marks.now counter }
 {
+    // Kept: a match, since each box has fields of its own; closures would be no plainer.
     match b {
         FlowBox::Assign {
             target,

@@ -13,10 +13,12 @@ use runner::{Answered, Called, Runner};
 use texts::Text;
 
 // "11: the run program's line is ill-formed."
+// Kept: a number, since `Reason` names what calls refuse, and this refusal is no call's.
 const ILL_FORMED: u32 = 11;
 
 // The runner afterwards, how many bytes were printed, and whether a chart was loaded.
 // Kept: runner and length are told of a refused file too, so no Option or Result is of this shape.
+// Kept: a length, since the text lies in a buffer that is lent, and no heap holds it.
 #[derive(Clone, Copy)]
 pub struct Opened {
     pub runner: Runner,
@@ -25,6 +27,7 @@ pub struct Opened {
 }
 
 // The chart line, or the refusal of a file.
+// Kept, here and in `respond`: clauses of a length and of a buffer, which callers go by.
 #[tactic(auto, using(crate::proofs::Responses::accepts, crate::proofs::Responses::says_loaded))]
 pub fn load_chart(runner: Runner, file: &[u8], out: &mut [u8]) -> Opened
     ensures runner_value { result.runner ≡ (loading file.now runner).next }

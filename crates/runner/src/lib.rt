@@ -95,6 +95,7 @@ impl Runner {
     pub fn new() -> Runner
         ensures { result ≡ new_runner }
     {
+        // Kept: each field again, since `drop_run` needs a runner that is there.
         let header = Header {
             edition: 0,
             inputs: 0,
@@ -156,6 +157,7 @@ impl Runner {
                 runner: self,
             };
         }
+        // Kept, here and below: no `?`, since a refused call hands its runner back too.
         match format::check_file(file) {
             Ok(header) => {
                 self.header = header;
@@ -177,6 +179,7 @@ impl Runner {
     }
 
     // A run on the held chart, which forgets an earlier ending.
+    // Kept: four arguments, which document 01 has the call take.
     pub fn begin(mut self, mode: u32, inputs: &[u32], allowed: u32, limit: u32) -> Called<()>
         ensures { outcome (verdict_reply result.told) [] result.runner ≡ call (begin mode inputs.now allowed limit) self }
     {

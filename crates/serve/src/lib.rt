@@ -48,6 +48,7 @@ fn read_file(rt: &impl Files, buf: &mut [u8]) -> Result<usize, Error>
 }
 
 // Reads behind the bytes at hand.
+// Kept: the clause on the session's end, since its buffer is lent and no field of it.
 fn read(rt: &impl Eprint, input: &mut impl Read, session: &mut Session, buffer: &mut [u8])
     requires { session.old.end ≤ length buffer.old }
 {
@@ -60,7 +61,7 @@ fn read(rt: &impl Eprint, input: &mut impl Read, session: &mut Session, buffer: 
 
 // Does what each turn wants, until one wants to stop or a write fails. An ending loop counts its
 // turns, up to a number that no run uses up. Kept: the three arms say what a turn's want means, and
-// closures for them would be no plainer.
+// closures for them would be no plainer; a length of a text, which `turn` tells of a lent buffer.
 fn serve(
     rt: &(impl Input + Print + Eprint),
     runner: Runner,

@@ -9,6 +9,7 @@ use runner::{Answered, Ending, Loaded};
 
 // The chart line, the ending of a run, or a refusal, whose detail passes 32 bits where it is the
 // number of a line that is ill-formed.
+// Kept: a refusal as numbers, since a line's number passes the 32 bits of `Refusal`.
 #[derive(Clone, Copy, Debug, PartialEq, Eq)]
 pub enum Text {
     Chart { inputs: u8, boxes: u8 },

@@ -31,6 +31,7 @@ pub struct Session {
 
 // What a turn wants: the text at the front of its buffer written, which has so many bytes, more
 // input read, or to stop.
+// Kept: what to do is told, not done by closures, since no call of the system stands here.
 #[derive(Clone, Copy)]
 pub enum Wanted {
     Write(usize),
