@@ -33,5 +33,3 @@ end_front p out one x a e h l =
     ∙ set_at p (get_or out (length p) 0) _ x a (sym h)
     ∙ sym (append_snoc p x _)
     ∙ ap (λ (k : ℕ). (p ++ (x ∷ [])) ++ drop k out) longer
-
--- The first bytes of a text fit into a part that is as long.
