@@ -237,8 +237,8 @@ impl Runner {
                     mark,
                     next,
                 } => {
-                    // Kept: by `usize::from` the place would be its result in the loop's proof, which
-                    // did not close.
+                    // Kept: by `usize::from` the place is its result in the loop's proof, which did
+                    // not close.
                     let t = (target % 32) as usize;
                     self.vars[t] = v;
                     self.marks[t] = mark;

@@ -30,8 +30,8 @@ pub fn read_chart(rt: &(impl Files + Eprint), buf: &mut [u8; 2561]) -> usize
 }
 
 // Reads until a buffer is full or the file ends. The buffer has as many bytes as are read of a
-// chart file at most. Kept: the loop and its length, since no method of std fills an array as far as
-// a file goes: `read_exact` refuses a shorter file, and `read_to_end` needs a heap.
+// chart file at most. Kept: the loop and its length, since no method of std fills an array as far
+// as a file goes: `read_exact` refuses a shorter file, and `read_to_end` needs a heap.
 fn read_file(rt: &impl Files, buf: &mut [u8]) -> Result<usize, Error>
     requires { length buf.old ≡ read_of_file }
     ensures { IfOk result (λ n. IsPrefixLen n buf.new) }
