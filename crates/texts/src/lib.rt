@@ -68,33 +68,35 @@ impl Text {
     // Prints at the front of a buffer, and answers how many bytes it put there: none in a buffer
     // that is short of 64.
     // Kept: a Display and `write!` promise their bytes where they are Ok, and no clause says when
-    // that is, but these bytes always come. The length 0 is held by `printed_length`.
+    // that is, but these bytes always come. `printed_length` holds the length 0 where there is no
+    // room. Length and bytes are two clauses, here, below and in `reply`, since callers' proofs cite
+    // each by its name.
     #[tactic(auto, unfolding(crate::specs::Printing::sentence))]
     pub fn print(self, out: &mut [u8]) -> usize
         ensures value { result ≡ printed_length (text_of self) (length out.old) }
         ensures out_after { out.new ≡ printed (text_of self) out.old }
     {
         match self {
-            Text::Chart { inputs, boxes } => print(
+            Text::Chart { inputs, boxes } => print_sentence(
                 &[
                     ("chart inputs ", u64::from(inputs)),
                     (" boxes ", u64::from(boxes)),
                 ],
                 out,
             ),
-            Text::Value { value, steps } => print(
+            Text::Value { value, steps } => print_sentence(
                 &[("value ", u64::from(value)), (" steps ", u64::from(steps))],
                 out,
             ),
-            Text::Notice { steps, named } => print(
+            Text::Notice { steps, named } => print_sentence(
                 &[
                     ("notice steps ", u64::from(steps)),
                     (" inputs ", u64::from(named)),
                 ],
                 out,
             ),
-            Text::Spent { steps } => print(&[("spent steps ", u64::from(steps))], out),
-            Text::Refused { number, detail } => print(
+            Text::Spent { steps } => print_sentence(&[("spent steps ", u64::from(steps))], out),
+            Text::Refused { number, detail } => print_sentence(
                 &[("refused ", u64::from(number)), (" detail ", detail)],
                 out,
             ),
@@ -119,7 +121,7 @@ fn put_clause(word: &str, number: u64, out: &mut [u8]) -> usize
 }
 
 // The clauses, then the newline, where the buffer has room for every text.
-fn print(clauses: &[(&str, u64)], out: &mut [u8]) -> usize
+fn print_sentence(clauses: &[(&str, u64)], out: &mut [u8]) -> usize
     requires { sum_by (λ c. length c.0.now + 20) clauses.now < 64 }
     ensures value { result ≡ printed_length (sentence (map (λ c. (c.0.now, c.1)) clauses.now)) (length out.old) }
     ensures out_after { out.new ≡ printed (sentence (map (λ c. (c.0.now, c.1)) clauses.now)) out.old }

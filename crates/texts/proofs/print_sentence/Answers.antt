@@ -1,7 +1,7 @@
--- `print` leaves a shorter buffer as it was, and puts the newline after all the clauses.
+-- `print_sentence` leaves a shorter buffer as it was, and puts the newline after all the clauses.
 use Rattle.texts.specs.Printing.{sentence}
 use Rattle.texts.proofs.Fronts.{no_room, with_room, newline}
-use Rattle.texts.proofs.print.Goals as goal
+use Rattle.texts.proofs.print_sentence.Goals as goal
 
 pub returns-then-out-lt64 : goal.returns-then-out-lt64
 returns-then-out-lt64 c = let all = no_room _ c.args.out.now c.if-out-lt64.true in record { value = all.0; out_after = all.1 }
