@@ -69,8 +69,8 @@ impl Text {
     // that is short of 64.
     // Kept: a Display and `write!` promise their bytes where they are Ok, and no clause says when
     // that is, but these bytes always come. `printed_length` holds the length 0 where there is no
-    // room. Length and bytes are two clauses, here, below and in `reply`, since callers' proofs cite
-    // each by its name.
+    // room. Length and bytes are two clauses, here, below and in `reply`: proofs above cite each by
+    // its name.
     #[tactic(auto, unfolding(crate::specs::Printing::sentence))]
     pub fn print(self, out: &mut [u8]) -> usize
         ensures value { result ≡ printed_length (text_of self) (length out.old) }
