@@ -10,7 +10,6 @@ mod report;
 use list::List;
 use std::io;
 use test_samples::files::{File, front, low};
-use test_text::print::say;
 use test_text::text::{number, part};
 use test_text::{edits, input, letters};
 
@@ -36,7 +35,7 @@ fn command(rt: &impl Print, list: &mut List, line: &[u8], file: &mut File) -> io
         b"li" | b"by" => {}
         _ => {
             print!(rt; "wrong line: ")?;
-            say(rt, line)?;
+            rt.write_all(line)?;
             println!(rt)?;
         }
     }

@@ -4,7 +4,6 @@ use crate::call_lines;
 use encoding::kinds;
 use std::{fmt, io};
 use test_text::letters;
-use test_text::print::say;
 use test_text::text::{number, part};
 
 // What the numbers told are before a list is made.
@@ -64,19 +63,19 @@ fn print_line<'a>(
     buffer: &[u8],
 ) -> io::Result<&'a [u32]> {
     if call_lines::numbers(line).is_some() {
-        say(rt, line)?;
+        rt.write_all(line)?;
         print!(rt; ": ")?;
         return print_told(rt, told);
     }
     match letters::of(line) {
         b"li" => {
-            say(rt, line)?;
+            rt.write_all(line)?;
             println!(rt)?;
         }
         b"by" => {
             let from = number(line, 1) as usize;
             let to = number(line, 2) as usize;
-            say(rt, line)?;
+            rt.write_all(line)?;
             print!(rt; ":")?;
             for byte in part(buffer, from, to) {
                 print!(rt; " {byte}")?;

@@ -2,7 +2,6 @@
 use crate::pair::Difference;
 use encoding::{Encoded, kinds};
 use std::{fmt, io};
-use test_text::print::say;
 
 // What a call told, in the words of the run program.
 #[derive(Clone, Copy)]
@@ -62,7 +61,7 @@ impl From<io::Error> for Failure<'_> {
 }
 
 pub fn case(rt: &impl Print, name: &[u8], told: Encoded) -> io::Result<()> {
-    say(rt, name)?;
+    rt.write_all(name)?;
     println!(rt; ": {}", Told(told))
 }
 
@@ -81,7 +80,7 @@ impl Failure<'_> {
             }
             Failure::WrongLine { line, calls } => {
                 print!(rt; "difference: ")?;
-                say(rt, line)?;
+                rt.write_all(line)?;
                 println!(rt; ", case 0, call {calls}\n  one: done\n  other: done")
             }
             Failure::Output(error) => Err(error),
