@@ -17,6 +17,7 @@ pub struct Arguments {
 
 // The steps that a limit means.
 // Kept: 01 lets 0 stand for 4,096, and a limit is drawn as it is given to begin.
+// It is said here again, apart from `begin`, which is tested by these arguments.
 pub fn steps_within(limit: u32) -> u32 {
     if limit == 0 { 4096 } else { limit }
 }

@@ -65,6 +65,7 @@ fn operation(random: &mut Random, alike: bool) -> u8 {
 }
 
 // Whether an operation other than 0 reads its right operand in an edition.
+// Kept: said here again, apart from the rules of `boxes`, which are tested on these charts.
 fn reads_right(edition: Edition, op: u8) -> bool {
     match op {
         1 | 9 | 10 => false,

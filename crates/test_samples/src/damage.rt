@@ -108,6 +108,7 @@ impl Draft {
     }
 
     // The checks of the other edition, which is 2 where byte 4 is that of neither.
+    // Kept: editions are bytes here, as byte 4 may be that of none.
     fn other_checks(&mut self) {
         let edition = if self.file[4] == 2 { 1 } else { 2 };
         files::seal(&mut self.file, edition);
@@ -141,6 +142,7 @@ impl Draft {
 
 // A file that was drawn, and whether it is a chart's with two box blocks exchanged and nothing else
 // changed.
+// Kept: a flag, since the file is there either way; an Option would have no more to hold.
 #[derive(Drop)]
 pub struct Drawn {
     pub bytes: ArrayVec<u8, 3072>,

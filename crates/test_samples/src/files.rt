@@ -1,4 +1,5 @@
-// Chart files in a buffer: bytes, places and checks. A byte past the end is not put, and reads as 0.
+// Chart files in a buffer: bytes, places and checks. A byte past the end is not put, and reads as
+// 0.
 // Kept: bytes at places, lengths, headers and checks are said here again, apart from the code that
 // is tested on these files. Editions are bytes, as byte 4 may be that of none.
 ghost use Rattle.std.specs.Prelude.{◌<◌};
@@ -90,6 +91,7 @@ pub fn mend(file: &mut File) {
 }
 
 // Two blocks exchanged, with their checks.
+// Kept: byte by byte, since the two blocks may be one, of which no two mutable parts can be lent.
 // Kept: std has no From of u32 for usize.
 pub fn exchange(file: &mut File, i: u32, j: u32) {
     let one = 512 * (i % 6) as usize;

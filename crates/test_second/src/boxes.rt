@@ -80,6 +80,7 @@ impl ChartBox {
     }
 
     // Whether the box may stand in a chart of so many inputs and boxes.
+    // Kept: a match, since each box has fields of its own; closures would be no plainer.
     pub fn may_stand(self, inputs: u8, boxes: u8) -> bool {
         match self {
             ChartBox::Assignment {

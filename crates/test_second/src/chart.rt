@@ -127,8 +127,8 @@ impl Chart {
         }
     }
 
-    // The same chart in the other edition, or the first box that differs there. No path is followed:
-    // a box that none reaches counts.
+    // The same chart in the other edition, or the first box that differs there. No path is
+    // followed: a box that none reaches counts.
     pub fn in_other_edition(mut self) -> Result<Chart, Refusal> {
         if let Some(number) = (0..self.boxes).find(|number| self.differs(*number)) {
             return Err(Refusal::OtherEdition(number));

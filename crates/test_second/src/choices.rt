@@ -1,4 +1,5 @@
 // Decisions between two copies become choices: the rewriter, on the bytes of a chart file.
+// Kept: kinds and operations are bytes here, since a choice is put into the file as its bytes.
 use crate::blocks::{place, start};
 
 // The choice for a decision between two boxes that copy to one target and go on to one box. Its

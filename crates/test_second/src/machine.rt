@@ -158,6 +158,7 @@ impl Run {
     // One box, counted, and how the run ends, where it does. A choice is an assignment that reads
     // four variables: the two compared and the two that it may copy. It ends no run and leaves the
     // counter's set.
+    // Kept: a match, since each box has fields of its own; closures would be no plainer.
     fn step(&mut self, chart: &Chart) -> Option<Ending> {
         self.steps = self.steps.wrapping_add(1);
         // Never none, in a chart.

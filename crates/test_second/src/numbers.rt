@@ -85,6 +85,7 @@ impl Meaning {
     }
 
     // What the operation gives; only `Constant` uses `constant`.
+    // Kept, here and in `holds`: a match, whose arms are one result each.
     pub fn result_of(self, constant: u32, left: u32, right: u32) -> u32 {
         match self {
             Meaning::Constant => constant,
@@ -123,6 +124,7 @@ impl Comparison {
         }
     }
 
+    // Kept: compared here again, so that the two interpreters are read apart.
     pub fn holds(self, left: u32, right: u32) -> bool {
         match self {
             Comparison::Equal => left == right,

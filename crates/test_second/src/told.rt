@@ -74,6 +74,7 @@ impl Refusal {
 
 // What is told as a kind and two values, of which one that is not used is 0. They are said here
 // again because this crate was written apart from `encoding`, and is compared with it.
+// Kept: a number for the kind, since `encoding` makes such numbers, and the two are compared.
 #[derive(Clone, Copy, Debug, PartialEq, Eq)]
 pub struct Numbers {
     pub kind: u32,

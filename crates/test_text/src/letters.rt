@@ -1,6 +1,7 @@
 // A command is a line, and is known by its first two letters.
 
 // The two letters, or the whole line where it has fewer.
+// Kept: two letters and no whole word, since a line that goes on otherwise is the same command.
 pub fn of(line: &[u8]) -> &[u8] {
     line.get(..2).unwrap_or(line)
 }
