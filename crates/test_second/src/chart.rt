@@ -2,7 +2,7 @@
 ghost use Rattle.std.specs.Prelude.{◌≤◌, IsSome, length};
 
 use crate::boxes::ChartBox;
-use crate::numbers::{Edition, Meaning};
+use crate::numbers::Edition;
 use crate::told::{Refusal, Reply, Told};
 use crate::{blocks, choices};
 
@@ -118,13 +118,8 @@ impl Chart {
     // Whether the bytes of a box say something else in the other edition, or nothing at all there:
     // operations differ in what they mean, kinds 2 and 3 are alike, and kind 4 is edition 2's own.
     fn differs(&self, number: u8) -> bool {
-        match blocks::place(&self.bytes, number) {
-            [1, _, operation, ..] => {
-                Meaning::of(Edition::One, operation) != Meaning::of(Edition::Two, operation)
-            }
-            [2 | 3, ..] => false,
-            _ => true,
-        }
+        let bytes = blocks::place(&self.bytes, number);
+        ChartBox::of(Edition::One, bytes) != ChartBox::of(Edition::Two, bytes)
     }
 
     // The same chart in the other edition, or the first box that differs there. No path is
