@@ -7,7 +7,8 @@ use arrayvec::ArrayVec;
 use bench_rounds::{fold_told, holding};
 
 // Health checks: begin, advance to the end, answer. Input 0 is one more each round. Of more than 32
-// inputs, which no chart has, there are no rounds.
+// inputs, which no chart has, there are no rounds. Kept: a sum of 0 for these, a mode that is a
+// number and the arguments of a begin, since callers in C give and read them.
 pub fn flow_checks(
     file: &[u8],
     mode: u32,
@@ -22,6 +23,7 @@ pub fn flow_checks(
     }
     let mut runner = holding(file);
     let mut sum = 0;
+    // Kept: rounds of its own, so that each call has one caller.
     for _ in 0..rounds {
         if let Some(first) = numbers.first_mut() {
             *first = first.wrapping_add(1);

@@ -1,6 +1,7 @@
 // The health checks of `bench_checks`, exported for the benchmark.
 #![tactic(auto)]
 
+// Kept: six arguments, since callers in C go by them.
 #[unsafe(no_mangle)]
 pub extern "C" fn flow_checks(
     file: &[u8],

@@ -1,5 +1,7 @@
 // For the benchmark, to be timed: many rounds of one call; what each tells is folded into a sum.
 // The functions have no equations: the benchmark compares the sums with those of plain Rust.
+// Kept: each has its own rounds, since a function that is given what a round does would say no more
+// than `for` or `fold`. `as` stands where std has no `From`: u32 for usize, and usize for u64.
 #![tactic(auto)]
 
 use block::Refusal;
@@ -21,18 +23,16 @@ pub fn fold_told(sum: u64, told: impl Into<Encoded>) -> u64 {
 }
 
 fn fold_byte(sum: u64, bytes: &[u8], at: usize) -> u64 {
-    match bytes.get(at) {
-        Some(byte) => fold(sum, u64::from(*byte)),
-        None => sum,
-    }
+    bytes
+        .get(at)
+        .map_or(sum, |byte| fold(sum, u64::from(*byte)))
 }
 
 // What a round told that wrote to a buffer, and one byte of the buffer, which becomes 255.
 fn fold_written(sum: u64, told: Result<usize, Refusal>, buf: &mut [u8], round: u32) -> u64 {
-    let byte = match buf.get_mut((round % 2048) as usize) {
-        Some(byte) => mem::replace(byte, 255),
-        None => 0,
-    };
+    let byte = buf
+        .get_mut((round % 2048) as usize)
+        .map_or(0, |byte| mem::replace(byte, 255));
     fold(fold_told(sum, told), u64::from(byte))
 }
 
@@ -41,6 +41,7 @@ pub fn holding(file: &[u8]) -> Runner {
 }
 
 // Two files, each of which is a half of the lent bytes.
+// Kept: two files in one buffer, as callers in C lend them.
 fn halves(files: &[u8]) -> [&[u8]; 2] {
     let half = files.len() / 2;
     [&files[..half], &files[half..2 * half]]

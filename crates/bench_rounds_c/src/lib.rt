@@ -1,4 +1,5 @@
-// The rounds of `bench_rounds`, exported for the benchmark.
+// The rounds of `bench_rounds`, exported for the benchmark. Kept: some differ in their names alone,
+// which callers in C have.
 #![tactic(auto)]
 
 #[unsafe(no_mangle)]

@@ -6,6 +6,7 @@ use arrayvec::ArrayVec;
 // bytes, each `filled`.
 // Kept: `fits` is a flag, since a list with more than there is room for is made as far as it goes,
 // and that is said only then.
+// Kept: it derives Drop alone, since no list is copied or compared.
 #[derive(Drop)]
 pub struct List {
     pub files: ArrayVec<u8, 8192>,
@@ -30,6 +31,7 @@ impl List {
     }
 
     // A file behind those that are there.
+    // Kept: one by one, here and in `add`: `try_extend_from_slice` puts none where not all fit.
     pub fn keep(&mut self, file: &[u8]) {
         self.fits &= file.iter().all(|byte| self.files.try_push(*byte).is_ok());
     }

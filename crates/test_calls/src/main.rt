@@ -13,6 +13,8 @@ use test_samples::files::{File, front, low};
 use test_text::text::{number, part};
 use test_text::{edits, input, letters};
 
+// Kept, here and in what prints: a match on a line's letters, whose arms are one call each. `as`
+// stands where std has no `From` of u32 for usize.
 // A line edits the file, adds to the list or changes what is lent to it; one that is only printed
 // has its turn when the list is made.
 fn command(rt: &impl Print, list: &mut List, line: &[u8], file: &mut File) -> io::Result<()> {
@@ -43,6 +45,7 @@ fn command(rt: &impl Print, list: &mut List, line: &[u8], file: &mut File) -> io
 }
 
 // Makes a list, and prints of its lines what came of them.
+// Kept: arrays and how much of each is lent, as `flow_script` is lent a part of each.
 fn make(rt: &impl Print, list: &List, lines: &[&[u8]]) -> io::Result<()> {
     let mut told = [report::UNTOLD; 256];
     let mut buffer = [list.filled; 2600];
@@ -67,10 +70,8 @@ fn lists(rt: &(impl Print + AllocGlobal), text: &[u8]) -> io::Result<()> {
     let mut file: File = [0; 3072];
     let mut list = List::new();
     let mut lines = Vec::new(rt.alloc());
-    for line in text.split_inclusive(|byte| *byte == b'\n') {
-        let Some(line) = line.strip_suffix(b"\n") else {
-            break;
-        };
+    let pieces = text.split_inclusive(|byte| *byte == b'\n');
+    for line in pieces.filter_map(|piece| piece.strip_suffix(b"\n")) {
         if line.starts_with(b"ma") {
             make(rt, &list, &lines)?;
             list = List::new();
@@ -83,11 +84,9 @@ fn lists(rt: &(impl Print + AllocGlobal), text: &[u8]) -> io::Result<()> {
     Ok(())
 }
 
-// Standard input has room for fewer than 65,536 bytes.
 fn main(rt: HostRuntime) -> io::Result<()> {
-    let text = input::read(&rt, 65536)?;
-    if text.len() == 65536 {
+    let Some(text) = input::read(&rt)? else {
         return println!(&rt; "standard input is too long");
-    }
+    };
     lists(&rt, &text)
 }

@@ -6,10 +6,11 @@ use std::{fmt, io};
 use test_text::letters;
 use test_text::text::{number, part};
 
-// What the numbers told are before a list is made.
+// What the numbers told are before a list is made. Kept: those that no call told are printed too.
 pub const UNTOLD: u32 = 99;
 
-// The kind of what a call told, by its name or by its number.
+// The kind of what a call told, by its name or by its number. Kept: kinds are the numbers of
+// `encoding`, which `flow_script` tells.
 #[derive(Clone, Copy)]
 struct Kind(u32);
 
@@ -44,6 +45,7 @@ fn print_told<'a>(rt: &impl Print, told: &'a [u32]) -> io::Result<&'a [u32]> {
 }
 
 // The numbers that no call told.
+// Kept: its loop is one `print!`, as that of bytes below; one function of both is no plainer.
 fn print_rest(rt: &impl Print, told: &[u32]) -> io::Result<()> {
     if told.is_empty() {
         return Ok(());

@@ -48,6 +48,7 @@ fn run(case: &mut Case, two: &mut Two) -> Result<(), Difference> {
 
 // Three runs of a file's chart and of its converted one, where the file converts.
 pub fn runs(case: &mut Case) -> Result<(), Difference> {
+    // Kept: a length beside the buffer, as `convert` tells it.
     let mut buffer = [0; 2560];
     let Ok(length) = convert::convert(case.file, &mut buffer) else {
         return Ok(());

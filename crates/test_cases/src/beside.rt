@@ -28,6 +28,7 @@ pub fn runs(case: &mut Case) -> Result<(), Difference> {
     }
     let new = rewritten.runner;
     let equal = compare::one_chart(old, new);
+    // Kept: a mode is the number that begin takes.
     for mode in [0, 0, 0, 1, 1] {
         let mut a = arguments::begin(case.random, byte(case.file, 5));
         a.mode = mode;

@@ -1,5 +1,7 @@
 // The commands of the fixed cases, one to a line: they change the chart file, make a call, or say
 // what the last call is to tell or what the file is to hold. The file `stdin` has the list of them.
+// Kept: a match on a call or on a line's letters, whose arms are one call each. `as` stands where
+// std has no `From` of u32 for usize.
 use crate::pair::{Difference, Pair};
 use crate::report;
 use crate::report::Failure;
@@ -85,10 +87,8 @@ fn command<'a>(
 pub fn run<'a>(rt: &impl Print, text: &'a [u8]) -> Result<(), Failure<'a>> {
     let mut pair = Pair::new();
     let mut file: File = [0; 3072];
-    for line in text.split_inclusive(|byte| *byte == b'\n') {
-        let Some(line) = line.strip_suffix(b"\n") else {
-            break;
-        };
+    let pieces = text.split_inclusive(|byte| *byte == b'\n');
+    for line in pieces.filter_map(|piece| piece.strip_suffix(b"\n")) {
         command(rt, &mut pair, line, &mut file)?;
     }
     Ok(())

@@ -16,7 +16,8 @@ pub fn of_model(told: Told) -> Encoded {
     encoding::make(kind, u64::from(first), second)
 }
 
-// The file of the chart that a runner holds, with zeros after it.
+// The file of the chart that a runner holds, with zeros after it. Kept: `test_walkthrough` has its
+// own of another length, and no crate of tests stands under both.
 pub fn file_of(runner: Runner) -> [u8; 2560] {
     let mut file = [0; 2560];
     let _ = runner.write_back(&mut file);
@@ -37,6 +38,7 @@ pub fn model_holds(model: Model, runner: Runner) -> bool {
 
 // How a run of a chart and, with the same arguments, one of its rewritten chart end, or what
 // refuses their begins.
+// Kept: `bare` is a flag, since the other modes have one rule.
 #[derive(Clone, Copy)]
 pub struct Endings {
     pub old: Result<Answered, Refusal>,

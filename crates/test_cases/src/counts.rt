@@ -1,4 +1,6 @@
 // What the random cases reached.
+// Kept: a mode is the number that a begin takes, an edition the byte that a file has, and a refusal
+// has the number that is printed. `as` stands where std has no `From` of u32 for usize.
 ghost use Rattle.std.specs.Prelude.{◌<◌};
 
 use crate::compare::Endings;

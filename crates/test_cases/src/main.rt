@@ -42,6 +42,7 @@ fn random_case(pair: &mut Pair, random: &mut Random, number: u32) -> Result<(), 
         file: &drawn.bytes,
     };
     case.list()?;
+    // Kept: which comparison follows is drawn as a number.
     match case.random.below(4) {
         0 => alike::runs(&mut case),
         1 => beside::runs(&mut case),
@@ -64,12 +65,10 @@ fn cases<'a>(rt: &impl Print, text: &'a [u8]) -> Result<Counts, Failure<'a>> {
     Ok(random_cases()?)
 }
 
-// Standard input has room for fewer than 65,536 bytes.
 fn main(rt: HostRuntime) -> io::Result<()> {
-    let text = input::read(&rt, 65536)?;
-    if text.len() == 65536 {
+    let Some(text) = input::read(&rt)? else {
         return println!(&rt; "standard input is too long");
-    }
+    };
     match cases(&rt, &text) {
         Ok(counts) => println!(&rt; "{counts}no difference"),
         Err(failure) => failure.print(&rt),

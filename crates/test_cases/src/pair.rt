@@ -44,7 +44,8 @@ impl fmt::Display for Difference {
 // advanced at once by the whole limit of the last run. `chart` has the numbers of the chart held,
 // 0 where there is none; `mode` and `limit` are those of the last run. `case` and `calls` say where
 // the pair is. `exchanged` says that the case's file is a chart's with two blocks exchanged.
-#[derive(Clone, Copy)]
+// Kept: `exchanged` and `mode` are as they were drawn, and no value stands beside the flag.
+#[derive(Drop)]
 pub struct Pair {
     runner: Runner,
     model: Model,
@@ -102,7 +103,8 @@ fn goes_back(file: &[u8], converted: &[u8]) -> bool {
     convert::convert(converted, &mut back).is_ok() && part(&back, 0, file.len()) == file
 }
 
-// What is told of a box shown: how many bytes there are, and the first of them, its kind.
+// What is told of a box shown: how many bytes there are, and the first of them, its kind. Kept:
+// std has no `From` of usize for u64.
 fn shown(part: &[u8]) -> Encoded {
     encoding::make(kinds::SHOWN, part.len() as u64, byte(part, 0))
 }
@@ -151,6 +153,7 @@ impl Pair {
         self.exchanged = exchanged;
     }
 
+    // Kept: what is compared and what two told, here and below; of them a `Difference` is made.
     fn differ(
         &self,
         what: &'static str,
@@ -412,6 +415,7 @@ impl Pair {
     }
 
     // Both told what a fixed case says.
+    // Kept: a name is bytes, since it is of an input's line, which may be no text.
     pub fn expect<'a>(&self, name: &'a [u8], expected: Encoded) -> Result<(), Failure<'a>> {
         let told = self.told;
         if told != expected {

@@ -3,7 +3,8 @@ use crate::pair::Difference;
 use encoding::{Encoded, kinds};
 use std::{fmt, io};
 
-// What a call told, in the words of the run program.
+// What a call told, in the words of the run program. Kept: kinds are the numbers of `encoding`,
+// since the lines of fixed cases say them.
 #[derive(Clone, Copy)]
 pub struct Told(pub Encoded);
 
@@ -33,6 +34,7 @@ impl fmt::Display for Told {
 // Why the cases end before all are done: the two sides differ; a case told something else than its
 // line says; a line is no command, or says what is not so, after so many calls; or standard output
 // fails.
+// Kept: names and lines are bytes, here and in `case`, since those of an input may be no text.
 #[derive(Drop)]
 pub enum Failure<'a> {
     Difference(Difference),

@@ -2,6 +2,7 @@
 // without its newline.
 #![tactic(auto)]
 
+// Kept: a `main` of its own, as each program has.
 fn main(rt: HostRuntime) {
     serve::run(&rt);
 }

@@ -2,6 +2,7 @@
 // high-water mark.
 #![tactic(auto)]
 
+// Kept: a `main` of its own, as each program has.
 fn main(rt: HostRuntime) {
     serve::run(&rt);
 }

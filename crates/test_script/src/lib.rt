@@ -13,6 +13,8 @@
 //   7 convert        where the file starts, its length, how many bytes of the buffer are lent
 //   8 rewrite
 // A kind from 9 on is no call: it tells `NO_CALL`, and nothing is done.
+// Kept: kinds are numbers, and so is what is told of none, since callers in C give and read them
+// (`flow_script`). `as` stands where std has no `From`: u32 for usize, and usize for u64.
 #![tactic(auto)]
 
 use encoding::{Encoded, Numbered, kinds};
@@ -88,6 +90,7 @@ impl<'a> Call<'a> {
 
 // After a call: the runner, what was told, and a sum over the bytes of a lent buffer or a returned
 // part.
+// Kept: one type for what calls of five types told, as three numbers, with a sum beside them.
 #[derive(Clone, Copy)]
 struct Turn {
     runner: Runner,
@@ -107,8 +110,8 @@ impl Turn {
         Turn { runner, told, sum }
     }
 
-    // The four numbers that a call tells: the three of `encoding`, of the first its low 32 bits, and
-    // the sum.
+    // The four numbers that a call tells: the three of `encoding`, of the first its low 32 bits,
+    // and the sum. Kept: no `From` narrows.
     fn numbers(self) -> [u32; 4] {
         let Encoded {
             kind,
@@ -136,6 +139,7 @@ fn make(runner: Runner, call: Option<Call>, buf: &mut [u8]) -> Turn {
     let Some(call) = call else {
         return Turn::new(runner, encoding::make(NO_CALL, 0, 0), 0);
     };
+    // Kept: a match on the call, since each has fields of its own.
     match call {
         Call::Load(file) => runner.load(file).into(),
         Call::Begin {

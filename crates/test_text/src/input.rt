@@ -2,9 +2,9 @@
 use std::io;
 use std::io::Read;
 
-// The bytes of standard input, of which there may be more than are read.
-pub fn read(rt: &(impl Input + AllocGlobal), most: u64) -> io::Result<Vec<u8>> {
+// The bytes of standard input, or none where there are 65,536 or more.
+pub fn read(rt: &(impl Input + AllocGlobal)) -> io::Result<Option<Vec<u8>>> {
     let mut bytes = Vec::new(rt.alloc());
-    rt.reader().take(most).read_to_end(&mut bytes)?;
-    Ok(bytes)
+    let length = rt.reader().take(65536).read_to_end(&mut bytes)?;
+    Ok((length < 65536).then_some(bytes))
 }

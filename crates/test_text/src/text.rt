@@ -1,6 +1,5 @@
 // Texts: parts, pieces between separators, and numbers.
 // Kept: a part or a piece that is not there is an empty text, as all callers would make it one.
-// Kept: `test_walkthrough` has this line of std's too, since it stands on no crate of tests.
 
 // The bytes from one place to another, none where there are no such places.
 pub fn part(text: &[u8], from: usize, to: usize) -> &[u8] {

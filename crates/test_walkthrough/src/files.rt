@@ -6,6 +6,7 @@ use runner::Runner;
 pub type File = [u8; 1024];
 
 // The file of the held chart.
+// Kept: of two blocks, apart from that of 2,560 bytes in `test_cases`: two lines each.
 pub fn file_of(runner: Runner) -> File {
     let mut file = [0; 1024];
     let _ = runner.write_back(&mut file);

@@ -9,13 +9,9 @@ mod words;
 use files::{File, file_of, with_constant, with_copies};
 use runner::Runner;
 use std::io;
+use test_text::text::part;
 use walk::{ALLOWED, Mode, Run};
 use words::{Bytes, Holds, Mark, print_called, print_told};
-
-// The bytes from one place up to another, or none where there are fewer.
-fn part(bytes: &[u8], from: usize, to: usize) -> &[u8] {
-    bytes.get(from..to).unwrap_or_default()
-}
 
 // The check of a block, with so much added: as it is summed, and as the block holds it.
 fn print_check(rt: &impl Print, words: &str, added: u32, block: &[u8]) -> io::Result<()> {
@@ -130,6 +126,7 @@ fn rewriting(rt: &impl Print, converted: File) -> io::Result<()> {
 }
 
 fn main(rt: HostRuntime) -> io::Result<()> {
+    // Kept: an array and a length, as `serve::read_chart` answers.
     let mut space = [0; 2561];
     let length = serve::read_chart(&rt, &mut space);
     let file = &space[..length];

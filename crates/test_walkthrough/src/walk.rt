@@ -9,6 +9,7 @@ const LATENCY: u32 = 700;
 // The allowed set: bit 0 is 1 and bit 1 is 0.
 pub const ALLOWED: u32 = 1;
 
+// The modes, in the order of their numbers, which begin takes.
 #[derive(Clone, Copy)]
 pub enum Mode {
     Bare,

@@ -39,7 +39,8 @@ impl fmt::Display for Mark {
     }
 }
 
-// What a call told, in the words of the run program.
+// What a call told, in the words of the run program. Kept: kinds are the numbers of `encoding`, by
+// which all calls are printed alike.
 #[derive(Clone, Copy)]
 struct Told(Encoded);
 
