@@ -22,6 +22,7 @@ pub fn table_of(file: &[u8]) -> [u8; 2040]
     let count = box_blocks(file.len());
     // Kept: boxes are bytes of one array, since document 01 has the runner hold it.
     let mut table = [0u8; 2040];
+    // Kept: over chunks of both it stays open what the table holds after each of them.
     for j in 0..count {
         let to = 510 * j;
         let start = 512 * (1 + j);
@@ -69,9 +70,10 @@ pub fn put_file(header: Header, table: &[u8; 2040], buf: &mut [u8])
     ensures { buf.new ≡ put_file header table.now buf.old }
 {
     if format::in_range(header) && file_length(header) <= buf.len() {
+        // Kept: the part that starts at 512 times the block's number, as 01 asks; and a cast, since
+        // no `From` makes a u8 of a usize.
         for j in 0..format::blocks_for(header.boxes) {
             let at = 512 * j;
-            // Kept: no `From` makes a u8 of a usize.
             write_block(header, table, j as u8, &mut buf[at..at + 512]);
         }
     }

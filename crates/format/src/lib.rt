@@ -22,6 +22,7 @@ pub fn first_failing<F: Fn(u8) -> bool>(count: u8, test: F) -> Option<u8>
     requires { (i : ℕ) → i < count → F.pre test i }
     ensures { IsFirstFailing (F.post test) count result }
 {
+    // Kept: with `find` it stays open that a test is called at numbers below the count alone.
     for i in 0..count {
         if !test(i) {
             return Some(i);

@@ -54,8 +54,9 @@ impl State {
 // The chart that is held: its header and the box table. Of a run under way: the counter mark, the
 // mode, the box at hand, the limit and the steps so far, and last the variables and their marks.
 // What a run stores to is not beside the table, so that the table is not copied with it.
-// Kept: arrays of 32 numbers beside one another, and a new runner's table of zeros without a chart,
-// which 01 asks for; `is_held` tells a chart by its header.
+// Kept: one struct with arrays of 32 numbers, the numbers of a run beside them also where there is
+// none, and a new runner's table of zeros without a chart, as 01 asks; `is_held` tells a chart by
+// its header.
 #[derive(Clone, Copy)]
 pub struct Runner {
     header: Header,
@@ -192,7 +193,8 @@ impl Runner {
         self.vars = begin::first_vars(inputs);
         self.marks = begin::first_marks(allowed, self.header.inputs);
         self.counter = 0;
-        // Kept: std's `From` widens alone. `check_begin` let pass what fits.
+        // Kept: `From` of Mode takes a byte, and std's widens alone; `check_begin` let pass what
+        // fits.
         self.mode = Mode::from(mode as u8);
         self.at = self.header.first;
         self.limit = begin::effective(limit) as u16;
@@ -213,6 +215,7 @@ impl Runner {
         let mode = self.mode;
         let masks = marks::masks_of(mode);
         let hidden = marks::hides(mode);
+        // Kept: a refused advance goes on with 0 boxes, since one exit copies the runner once.
         let asked = amount(verdict, m);
         let portion = allot(asked, self.limit, self.steps);
         let reach = u32::from(self.steps) + portion.boxes;
@@ -312,8 +315,7 @@ impl Runner {
     {
         let header = self.header;
         calls::check_write_back(self.standing(), buf)?;
-        let table = self.table;
-        chart::put_file(header, &table, buf);
+        chart::put_file(header, &self.table, buf);
         Ok(chart::file_length(header))
     }
 
@@ -377,7 +379,7 @@ fn left_to(limit: u32, steps: u32) -> u32
 }
 
 // What is disclosed of an ended run. A value keeps its count; where counts are hidden, nothing else
-// does.
+// does. Kept, here and in `tell`: a notice of no inputs and 0 steps, as `kept` and `told_of` say.
 fn disclose(hidden: bool, ending: Ending, steps: u32) -> Answered
     ensures { result ≡ kept hidden ending steps }
 {

@@ -58,6 +58,7 @@ fn print_rest(rt: &impl Print, told: &[u32]) -> io::Result<()> {
 }
 
 // Prints of a line what came of it, and answers the numbers that the next calls told.
+// Kept: a match on the letters, whose arms share no call; casts, as u32 has no From for usize.
 fn print_line<'a>(
     rt: &impl Print,
     line: &[u8],

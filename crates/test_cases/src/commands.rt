@@ -87,6 +87,7 @@ fn command<'a>(
 pub fn run<'a>(rt: &impl Print, text: &'a [u8]) -> Result<(), Failure<'a>> {
     let mut pair = Pair::new();
     let mut file: File = [0; 3072];
+    // Kept, as in `test_calls`: two lines of std's, which a function of both makes no plainer.
     let pieces = text.split_inclusive(|byte| *byte == b'\n');
     for line in pieces.filter_map(|piece| piece.strip_suffix(b"\n")) {
         command(rt, &mut pair, line, &mut file)?;

@@ -17,7 +17,7 @@ pub fn of_model(told: Told) -> Encoded {
 }
 
 // The file of the chart that a runner holds, with zeros after it. Kept: `test_walkthrough` has its
-// own of another length, and no crate of tests stands under both.
+// own of another length; what stands under both knows no runner. So has `model_holds` of a model.
 pub fn file_of(runner: Runner) -> [u8; 2560] {
     let mut file = [0; 2560];
     let _ = runner.write_back(&mut file);

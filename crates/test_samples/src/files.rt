@@ -92,7 +92,7 @@ pub fn mend(file: &mut File) {
 
 // Two blocks exchanged, with their checks.
 // Kept: byte by byte, since the two blocks may be one, of which no two mutable parts can be lent.
-// Kept: std has no From of u32 for usize.
+// Kept: casts, as by `low` it stays open that a block is one of the file's.
 pub fn exchange(file: &mut File, i: u32, j: u32) {
     let one = 512 * (i % 6) as usize;
     let two = 512 * (j % 6) as usize;

@@ -64,7 +64,7 @@ impl Chart {
     }
 
     fn has_range(&self) -> bool {
-        self.inputs <= 16 && 1 <= self.boxes && self.boxes <= 204 && self.first < self.boxes
+        self.inputs <= 16 && (1..=204).contains(&self.boxes) && self.first < self.boxes
     }
 
     // A place past the last box has zeros alone.

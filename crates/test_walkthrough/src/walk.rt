@@ -9,7 +9,8 @@ const LATENCY: u32 = 700;
 // The allowed set: bit 0 is 1 and bit 1 is 0.
 pub const ALLOWED: u32 = 1;
 
-// The modes, in the order of their numbers, which begin takes.
+// The modes, in the order of their numbers, which begin takes. Kept: they are printed in the
+// walkthrough's words, and `marks::Mode` has no number to give.
 #[derive(Clone, Copy)]
 pub enum Mode {
     Bare,

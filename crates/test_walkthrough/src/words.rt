@@ -40,7 +40,7 @@ impl fmt::Display for Mark {
 }
 
 // What a call told, in the words of the run program. Kept: kinds are the numbers of `encoding`, by
-// which all calls are printed alike.
+// which all calls are printed alike; `test_cases` has other words for what is written and shown.
 #[derive(Clone, Copy)]
 struct Told(Encoded);
 
