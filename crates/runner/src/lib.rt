@@ -184,26 +184,21 @@ impl Runner {
     pub fn begin(mut self, mode: u32, inputs: &[u32], allowed: u32, limit: u32) -> Called<()>
         ensures { outcome (verdict_reply result.told) [] result.runner ≡ call (begin mode inputs.now allowed limit) self }
     {
-        if let Err(refusal) = calls::check_begin(self.standing(), mode, inputs, allowed, limit) {
-            return Called {
-                told: Err(refusal),
-                runner: self,
-            };
+        let told = calls::check_begin(self.standing(), mode, inputs, allowed, limit);
+        // Kept: a refused begin goes on to the one exit, so that the runner is copied once.
+        if let Ok(()) = told {
+            self.vars = begin::first_vars(inputs);
+            self.marks = begin::first_marks(allowed, self.header.inputs);
+            self.counter = 0;
+            // Kept: `From` of Mode takes a byte, and std's widens alone; `check_begin` let pass
+            // what fits.
+            self.mode = Mode::from(mode as u8);
+            self.at = self.header.first;
+            self.limit = begin::effective(limit) as u16;
+            self.steps = 0;
+            self.state = State::Running;
         }
-        self.vars = begin::first_vars(inputs);
-        self.marks = begin::first_marks(allowed, self.header.inputs);
-        self.counter = 0;
-        // Kept: `From` of Mode takes a byte, and std's widens alone; `check_begin` let pass what
-        // fits.
-        self.mode = Mode::from(mode as u8);
-        self.at = self.header.first;
-        self.limit = begin::effective(limit) as u16;
-        self.steps = 0;
-        self.state = State::Running;
-        Called {
-            told: Ok(()),
-            runner: self,
-        }
+        Called { told, runner: self }
     }
 
     // Runs m boxes, or fewer if the run ends, and tells which. `end` is how the run ends where no
