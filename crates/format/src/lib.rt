@@ -17,7 +17,8 @@ pub struct Header {
     pub first: u8,
 }
 
-// The first number below a count that fails a test, if one does.
+// The first number below a count that fails a test, if one does. No equation, and a `requires`: all
+// that is known of a test is where it may be called (`pre`) and what it may give (`post`).
 pub fn first_failing<F: Fn(u8) -> bool>(count: u8, test: F) -> Option<u8>
     requires { (i : ℕ) → i < count → F.pre test i }
     ensures { IsFirstFailing (F.post test) count result }
