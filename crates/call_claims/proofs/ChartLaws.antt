@@ -2,7 +2,7 @@
 -- Assumes nothing.
 use Rattle.std.specs.Prelude.{Ok, Err, Result, ⊤}
 use Rattle.block.specs.declared.Refusal.{Refusal}
-use Prim.Native.Nat.{ℕ, ◌≤◌}
+use Prim.Native.Nat.{ℕ, zero, suc, ◌≤◌}
 use mathlib.Core.Path.{◌≡◌, refl, ap, sym, ◌∙◌}
 use mathlib.Core.List.{List, [], ◌∷◌, ◌++◌}
 use mathlib.Core.Bool.{false}
@@ -17,13 +17,14 @@ use Rattle.chart.specs.WriteBack.{file_length}
 use Rattle.chart_claims.proofs.RoundTrip.{file_again}
 use Rattle.chart_claims.proofs.Rules.{obeys_rules, stays_in_range}
 use Rattle.machine.specs.Run.{Progress, going, over}
-use Rattle.calls.specs.Calls.{Call, load, write_back, file_verdict, check}
-use Rattle.calls.proofs.Permits.{write_back_fits}
+use Rattle.marks.specs.Marks.{code_of}
+use Rattle.calls.specs.Calls.{Call, load, begin, write_back, file_verdict, check}
+use Rattle.calls.proofs.Permits.{permitted, write_back_fits}
 use Rattle.runner.specs.declared.Runner.{Runner}
-use Rattle.runner.specs.State.{chart_in, is_running, standing_of, idle, ended_with, dropped, ran, resumed}
+use Rattle.runner.specs.State.{chart_in, is_running, standing_of, mode_number, idle, ended_with, dropped, ran, resumed}
 use Rattle.runner.specs.Outcomes.{wrote, chart, Outcome, Effect, runs, keeps, begins, drops, replaces, effect, says, after, outcome_by, call}
 use Rattle.call_claims.specs.Lists.{Accepted, final}
-use Rattle.call_claims.specs.Charts.{Obeys, HeldObeys, RunsInRange, EndsInRange, KeepsChart, AllKeepChart, LoadedIsWritten, WrittenIsLoaded}
+use Rattle.call_claims.specs.Charts.{Obeys, HeldObeys, RunsInRange, BeginsInMode, EndsInRange, KeepsChart, AllKeepChart, LoadedIsWritten, WrittenIsLoaded}
 use Rattle.run_claims.proofs.Branches.{clash}
 use Rattle.call_claims.proofs.Accepting.{call_done}
 use Rattle.call_claims.proofs.Decoded.{reads_only}
@@ -51,6 +52,19 @@ held_obeys r g h = let f = (sound g).held h in from_obeys r.header r.table f.fil
 
 pub runs_in_range : RunsInRange
 runs_in_range r g e = (sound g).runs e
+
+-- The number of the mode that a number makes.
+number_kept : (mode : ℕ) → mode ≤ 2 → mode_number (code_of mode) ≡ mode
+number_kept zero l = refl
+number_kept (suc zero) l = refl
+number_kept (suc (suc zero)) l = refl
+number_kept (suc (suc (suc mode))) l = absurd (omega arith)
+
+pub begins_in_mode : BeginsInMode
+unfolding outcome_by after
+begins_in_mode r mode inputs allowed limit e =
+    let known = (permitted mode inputs allowed limit (standing_of r) e).known in
+    (known, ap (λ (o : Outcome). mode_number o.next.mode) (call_done (begin mode inputs allowed limit) r e) ∙ number_kept mode known)
 
 pub ends_in_range : EndsInRange
 ends_in_range r g e = let s = (sound g).ends e in (s.0, s.1, s.2)

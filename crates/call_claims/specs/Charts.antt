@@ -9,7 +9,7 @@ use Rattle.chart_claims.specs.Claims.{HeaderInRange, BoxInRange}
 use Rattle.decode.specs.Decode.{Box, assigns, decides, halts, flow}
 use Rattle.machine.specs.Run.{Run, value_in, named_in}
 use Rattle.run_claims.specs.Sets.{AllSets}
-use Rattle.calls.specs.Calls.{Call, load, write_back}
+use Rattle.calls.specs.Calls.{Call, load, begin, write_back}
 use Rattle.runner.specs.declared.Runner.{Runner}
 use Rattle.runner.specs.State.{is_held, is_running, is_ended, ending_in, total_in, state_number, mode_number, run_in, dropped}
 use Rattle.runner.specs.Outcomes.{chart, wrote, Effect, runs, keeps, begins, drops, replaces, effect, call}
@@ -64,6 +64,14 @@ pub record UnderWay (r : Runner) : Type 0 where
 
 abbrev pub RunsInRange : Type 0
 RunsInRange = (r : Runner) → Reached r → is_running r ≡ true → UnderWay r
+
+-- The mode of a runner is one that there is by its type. That the run has the mode that begin was
+-- given, and that this is 0, 1 or 2, is said of the number.
+abbrev pub BeginsInMode : Type 0
+BeginsInMode =
+    (r : Runner) (mode : ℕ) (inputs : List ℕ) (allowed limit : ℕ)
+    → Accepted (begin mode inputs allowed limit) r
+    → (mode ≤ 2) × (mode_number (call (begin mode inputs allowed limit) r).next.mode ≡ mode)
 
 -- An ended run is of a held chart, has one of the three endings, and names inputs of that chart.
 abbrev pub EndsInRange : Type 0

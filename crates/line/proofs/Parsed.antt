@@ -1,13 +1,14 @@
 -- What a line is read as, by what is left of its parts: `numbers_on` goes on from the numbers so
--- far. How it goes at a part and at the end; and that the first 256 bytes of a line are enough.
--- Assumes nothing.
-use Rattle.std.proofs.Common.{◌≡◌, ℕ, ◌+◌, ◌<◌, ◌≤◌, List, [], ◌∷◌, ◌++◌, map, Bool, true, false, cond, ◌&&◌, leb, length, get_or, drop, take, Option, Some, None, refl, ap, sym, ◌∙◌, arith, le-leb, length-append, length-take, take_all, append-nil, add-zero, zero-add}
+-- far. How it goes at a part and at the end, and where the numbers stand at the front of an array,
+-- zeros behind them; and that the first 256 bytes of a line are enough. Assumes nothing.
+use Rattle.std.proofs.Common.{◌≡◌, ℕ, ◌+◌, ◌-◌, ◌<◌, ◌≤◌, List, [], ◌∷◌, ◌++◌, map, Bool, true, false, cond, ◌&&◌, leb, length, get_or, set, drop, take, replicate, Option, Some, None, option_map, refl, ap, sym, ◌∙◌, arith, le-leb, length-append, length-take, take_all, append-nil, add-zero, zero-add}
 use Rattle.std.proofs.lemmas.Bool.{lt-leb}
-use Rattle.std.proofs.lemmas.List.{drop_more, at_drop_all}
+use Rattle.std.proofs.lemmas.List.{drop_more, at_drop_all, length-set, length-take-le, take_more_set, take-append-drop, drop-set-lt, drop-drop, drop-replicate}
 use Rattle.std.proofs.Math.Bool.{and-false}
 use Rattle.std.proofs.Math.Decide.{dec_lt}
-use lib.Seq.{append_snoc}
-use Rattle.line.specs.Parsing.{parts, number_of, is_number, all_numbers, is_line, parse}
+use lib.Seq.{append_snoc, take-append_seam}
+use Rattle.line.specs.declared.parsing.Numbers.{Numbers}
+use Rattle.line.specs.Parsing.{parts, number_of, is_number, all_numbers, is_line, numbers_of, parse}
 use Rattle.line.proofs.Digits.{read}
 
 abbrev pub count_rule : ℕ → Bool
@@ -71,6 +72,67 @@ module _ (line ns : List ℕ) (i : ℕ) (n : i ≡ length (parts line)) (e : num
   pub all_read : 3 ≤ length ns → length ns ≤ 19 → Some ns ≡ parse line
   unfolding all_numbers
   all_read f l = rw (add-zero, le-leb 3 (length ns) f, le-leb (length ns) 19 l, append-nil) at over
+
+-- The numbers so far stand at the front of 19 places, zeros behind them, and what is left of the
+-- line's parts, from the i-th, is read on to what the line is read as.
+pub record Reads (line numbers : List ℕ) (count i : ℕ) : Type 0 where
+  pub places : length numbers ≡ 19
+  pub fits : count ≤ 19
+  pub zeros : drop count numbers ≡ replicate (19 - count) 0
+  pub reads : numbers_on (take count numbers) (drop i (parts line)) ≡ parse line
+
+module _ {line numbers : List ℕ} {count i : ℕ} (h : Reads line numbers count i) where
+  many : length (take count numbers) ≡ count
+  many = length-take-le count numbers (omega (arith, h.fits, h.places))
+
+  -- At the part p at i: it is no number, there is no place for it, or it is stored.
+  module _ (p : List ℕ) (t : (i < length (parts line)) × (p ≡ get_or (parts line) i p)) where
+    pub no_part : None ≡ read p → None ≡ option_map numbers_of (parse line)
+    no_part r = ap (option_map numbers_of) (no_number line p (take count numbers) i t h.reads r)
+
+    pub no_place : 19 ≤ count → None ≡ option_map numbers_of (parse line)
+    no_place l =
+        ap (option_map numbers_of) (no_room line p (take count numbers) i t h.reads (omega (arith, many, h.fits)))
+
+    pub reads_next : (n : ℕ) → Some n ≡ read p → count < 19 → Reads line (set numbers count n) (count + 1) (i + 1)
+    reads_next n r l =
+        let within : count < length numbers = omega (arith, h.places) in
+        record {
+          places = length-set numbers count n ∙ h.places;
+          fits = omega arith;
+          zeros =
+              drop-set-lt (count + 1) numbers count n (omega arith)
+              ∙ sym (drop-drop 1 count numbers)
+              ∙ ap (drop 1) h.zeros
+              ∙ drop-replicate 1 (19 - count) 0
+              ∙ ap (λ (k : ℕ). replicate k 0) (omega arith);
+          reads = at_number line p (take count numbers) i t h.reads n (take (count + 1) (set numbers count n)) r (take_more_set numbers count n within);
+        }
+
+  -- At the end of the line.
+  module _ (n : i ≡ length (parts line)) where
+    pub no_three : count < 3 → None ≡ option_map numbers_of (parse line)
+    no_three f = ap (option_map numbers_of) (too_few line (take count numbers) i n h.reads (omega (arith, many)))
+
+    whole : numbers_of (take count numbers) ≡ record { numbers = numbers; count = count }
+    unfolding numbers_of
+    whole = rw (many, ← h.zeros, take-append-drop) refl
+
+    pub reads_all : 3 ≤ count → Some record { numbers = numbers; count = count } ≡ option_map numbers_of (parse line)
+    reads_all f =
+        let all = all_read line (take count numbers) i n h.reads (omega (arith, many)) (omega (arith, many, h.fits)) in
+        sym (ap Some whole) ∙ ap (option_map numbers_of) all
+
+-- The numbers of a line are those at the front.
+pub numbers_at_front : (line : List ℕ) (r : Numbers) → Some r ≡ option_map numbers_of (parse line) → parse line ≡ Some (take r.count r.numbers)
+unfolding numbers_of
+numbers_at_front line r e = by (parse line) e
+  where
+    by : (o : Option (List ℕ)) → Some r ≡ option_map numbers_of o → o ≡ Some (take r.count r.numbers)
+    by (Some ns) q =
+        let same : r ≡ record { numbers = ns ++ replicate (19 - length ns) 0; count = length ns } = cc in
+        rw same (ap Some (sym (take-append_seam ns (replicate (19 - length ns) 0))))
+    by None q = cc
 
 -- A line is read by its first 256 bytes.
 pub parse_first : (line : List ℕ) → parse (take 256 line) ≡ parse line

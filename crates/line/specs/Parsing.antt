@@ -1,9 +1,10 @@
 -- "lines from standard input: mode, allowed set, limit, inputs. That is 3 to 19 decimal numbers up
 -- to 4,294,967,295, without extra leading zeros, one space between, at most 255 bytes, then a
 -- newline": a line without its newline, as its numbers.
-use Rattle.std.specs.Prelude.{ℕ, ◌+◌, ◌*◌, ◌-◌, List, [], ◌∷◌, map, Bool, true, false, cond, not, ◌&&◌, eqb, ltb, leb, length, Option, None, Some}
+use Rattle.std.specs.Prelude.{ℕ, ◌+◌, ◌*◌, ◌-◌, List, [], ◌∷◌, ◌++◌, map, Bool, true, false, cond, not, ◌&&◌, eqb, ltb, leb, length, replicate, Option, None, Some}
 use Rattle.std.specs.List.{slice_split}
 use Rattle.std.specs.Str.{all_ascii_digits}
+use Rattle.line.specs.declared.parsing.Numbers.{Numbers}
 
 -- "one space between": the parts of a line, which its spaces cut.
 abbrev pub parts : List ℕ → List (List ℕ)
@@ -37,3 +38,7 @@ is_line line = leb (length line) 255 && leb 3 (length (parts line)) && leb (leng
 -- A line's numbers, and none where it is ill-formed.
 unfoldable pub parse : List ℕ → Option (List ℕ)
 parse line = cond (is_line line) (Some (map number_of (parts line))) None
+
+-- At most 19 numbers, then zeros: as the code has them.
+unfoldable pub numbers_of : List ℕ → Numbers
+numbers_of ns = record { numbers = ns ++ replicate (19 - length ns) 0; count = length ns }

@@ -1,11 +1,14 @@
 // A line of the run program, without its newline, as numbers.
-ghost use Rattle.std.specs.Prelude.{◌≡◌, ◌≤◌, length, Some, None, IfSome, if◌then◌else◌, option_map};
-ghost use Rattle.line.specs.Parsing.{number_of, is_number, parse};
+ghost use Rattle.std.specs.Prelude.{◌≡◌, ◌≤◌, Some, None, IfSome, if◌then◌else◌, option_map};
+ghost use Rattle.line.specs.Parsing.{number_of, is_number, numbers_of, parse};
 
-use arrayvec::ArrayVec;
-
-// The mode, the allowed set, the limit, and at most 16 inputs.
-pub type Numbers = ArrayVec<u32, 19>;
+// The mode, the allowed set, the limit, and at most 16 inputs, `count` in all; then zeros.
+// Kept: an array and a count, since `Numbers` is Copy, and the kit's `ArrayVec` is not.
+#[derive(Clone, Copy, Debug, PartialEq, Eq)]
+pub struct Numbers {
+    pub numbers: [u32; 19],
+    pub count: usize,
+}
 
 // The number that a part of a line is.
 // Kept: read by hand, since `parse` of std would take a plus sign too.
@@ -29,18 +32,24 @@ fn number(part: &[u8]) -> Option<u32>
 // The numbers of a line; none where it is ill-formed.
 #[tactic(auto, using(crate::proofs::Parsed::at_first))]
 pub fn parse(line: &[u8]) -> Option<Numbers>
-    ensures value { option_map (λ ns. ns.items) result ≡ parse line.now }
-    ensures count { IfSome result (λ ns. (3 ≤ length ns.items) × (length ns.items ≤ 19)) }
+    ensures value { result ≡ option_map numbers_of (parse line.now) }
+    ensures count { IfSome result (λ ns. (3 ≤ ns.count) × (ns.count ≤ 19)) }
 {
     if 255 < line.len() {
         return None;
     }
-    let mut numbers = Numbers::new();
+    let mut numbers = [0; 19];
+    let mut count = 0;
     for part in line.split(|b| *b == b' ') {
-        numbers.try_push(number(part)?).ok()?;
+        if count == numbers.len() {
+            return None;
+        }
+        // Kept: with `get_mut` it stays open what the array holds.
+        numbers[count] = number(part)?;
+        count += 1;
     }
-    if numbers.len() < 3 {
+    if count < 3 {
         return None;
     }
-    Some(numbers)
+    Some(Numbers { numbers, count })
 }

@@ -1,7 +1,8 @@
--- By the masks of the mode the act of a box is its act by the rules, where the marks are of 16 inputs
--- (`act_by_masks`), and the marks that it stores are of 16 inputs again. Assumes nothing.
+-- What a box that assigns does, by what the code computed of it, however a mark is set (`store_act`);
+-- and that by the masks of the mode the act of a box is its act by the rules, where the marks are of
+-- 16 inputs (`act_by_masks`), and the marks that it stores are of 16 inputs again. Assumes nothing.
 use Prim.Native.Nat.{ℕ, zero, suc, ◌%◌, ◌^◌, ◌<◌}
-use mathlib.Core.Path.{◌≡◌, refl, ap}
+use mathlib.Core.Path.{◌≡◌, refl, ap, sym, ◌∙◌}
 use mathlib.Core.List.{List, [], ◌∷◌}
 use mathlib.Core.Bool.{Bool, true, false, cond}
 use native.Mathlib.Omega.{arith}
@@ -10,14 +11,28 @@ use lib.ListN.{get_or, set}
 use Rattle.operations.proofs.ReadLaws.{read_map}
 use Rattle.marks.specs.Marks.{Mode, marked, union, masks_of, set_by, decision_notice, counter_mark, halt_notice, named_by}
 use Rattle.marks.proofs.MarkLaws.{set_by_mode, set_sixteen}
-use Rattle.decode.specs.Decode.{Box, assigns, decides, halts}
+use Rattle.decode.specs.Decode.{Box, assigns, decides, halts, meaning}
+use Rattle.decode.specs.declared.FlowBox.{FlowBox}
 use Rattle.machine.specs.Act.{entry, entries, notice_or, act_by, act}
 use Rattle.machine.specs.declared.Act.{Act}
 use Rattle.machine.specs.declared.Act.TheVariants.{Store, Go, Value, Notice}
+use Rattle.machine.specs.declared.Marked.{Marked}
 
 -- What the proofs of the code join its reads by: a union ends in no mark, and what an operation reads
 -- of the variables is what it reads of their numbers.
 pub ruleset reads = (or_zero_r, read_map)
+
+-- A box that assigns: what the code stores of what it gives, by how a mark is set.
+module _ (sets : ℕ → ℕ → ℕ) (edition : ℕ) (mode : Mode) (b : FlowBox) (vars marks : List ℕ) (counter : ℕ) where
+  pub store_act : (t next : ℕ) (reads : List ℕ) (gives : List ℕ → ℕ) (given : Marked) (r : Act)
+      → meaning edition b ≡ assigns t reads gives next
+      → given.value ≡ gives (entries vars reads)
+      → given.mark ≡ union (entries marks reads)
+      → r ≡ Store t given.value (sets (entry marks t) given.mark) next
+      → r ≡ act_by sets mode (meaning edition b) vars marks counter
+  unfolding act_by
+  store_act t next reads gives given r d value read e =
+      e ∙ sym (ap (λ (x : Box). act_by sets mode x vars marks counter) d ∙ rw (← value, ← read))
 
 -- Every mark is of 16 inputs.
 abbrev pub SixteenInputs : List ℕ → Type 0

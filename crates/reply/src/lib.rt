@@ -4,6 +4,7 @@
 ghost use Rattle.std.specs.Prelude.{◌≡◌, ◌≤◌, length};
 ghost use Rattle.io.specs.Counts.{IsPrefixLen};
 ghost use Rattle.texts.specs.Printing.{printed, printed_length};
+ghost use Rattle.texts.specs.Texts.{text_of};
 ghost use Rattle.runner.specs.Outcomes.{call};
 ghost use Rattle.runner.specs.Replies.{answer_reply};
 ghost use Rattle.reply.specs.Reply.{reply_text, is_accepted, loading, begin_of, run_reply, respond};
@@ -59,18 +60,25 @@ fn run(runner: Runner, numbers: &[u32]) -> Result<Answered, Refusal>
 }
 
 // The text of a line of that number, by a runner that holds a chart: of the run to its end, or of
-// what is refused. The runner is lent for the line alone.
-#[tactic(auto, using(crate::proofs::Responses::says_answered), unfolding(crate::specs::Reply::responded, crate::specs::Reply::respond))]
+// what is refused.
+#[tactic(auto, using(crate::proofs::Responses::says_answered, line::proofs::Parsed::numbers_at_front), unfolding(crate::specs::Reply::responded, crate::specs::Reply::respond))]
+fn response(runner: Runner, number: u64, line: &[u8]) -> Text
+    ensures { text_of result ≡ respond runner number line.now }
+{
+    let Some(read) = line::parse(line) else {
+        return Text::Refused {
+            number: ILL_FORMED,
+            detail: number,
+        };
+    };
+    // Kept: the front of an array by its count, since `Numbers` is Copy.
+    Text::from(run(runner, &read.numbers[..read.count]))
+}
+
+// The same, printed. The runner is lent for the line alone.
 pub fn respond(runner: Runner, number: u64, line: &[u8], out: &mut [u8]) -> usize
     ensures value { result ≡ printed_length (respond runner number line.now) (length out.old) }
     ensures out_after { out.new ≡ printed (respond runner number line.now) out.old }
 {
-    let Some(numbers) = line::parse(line) else {
-        let refused = Text::Refused {
-            number: ILL_FORMED,
-            detail: number,
-        };
-        return refused.print(out);
-    };
-    Text::from(run(runner, numbers.as_slice())).print(out)
+    response(runner, number, line).print(out)
 }

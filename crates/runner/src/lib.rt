@@ -310,7 +310,9 @@ impl Runner {
     {
         let header = self.header;
         calls::check_write_back(self.standing(), buf)?;
-        chart::put_file(header, &self.table, buf);
+        // Kept: a table of its own is lent, since a field of a runner by value would be copied first.
+        let table = self.table;
+        chart::put_file(header, &table, buf);
         Ok(chart::file_length(header))
     }
 

@@ -44,9 +44,9 @@ fn command(rt: &impl Print, list: &mut List, line: &[u8], file: &mut File) -> io
     Ok(())
 }
 
-// Makes a list, and prints of its lines what came of them.
+// Makes a list, and prints of its lines, which the text begins with, what came of them.
 // Kept: arrays and how much of each is lent, as `flow_script` is lent a part of each.
-fn make(rt: &impl Print, list: &List, lines: &[&[u8]]) -> io::Result<()> {
+fn make(rt: &impl Print, list: &List, lines: &[u8]) -> io::Result<()> {
     let mut told = [report::UNTOLD; 256];
     let mut buffer = [list.filled; 2600];
     let room = list.room.min(told.len());
@@ -66,27 +66,34 @@ fn make(rt: &impl Print, list: &List, lines: &[&[u8]]) -> io::Result<()> {
 }
 
 // Each list goes to its line `make`, and the next starts behind it. A line ends in a newline.
-fn lists(rt: &(impl Print + AllocGlobal), text: &[u8]) -> io::Result<()> {
+fn lists(rt: &impl Print, text: &[u8]) -> io::Result<()> {
     let mut file: File = [0; 3072];
     let mut list = List::new();
-    let mut lines = Vec::new(rt.alloc());
-    let pieces = text.split_inclusive(|byte| *byte == b'\n');
-    for line in pieces.filter_map(|piece| piece.strip_suffix(b"\n")) {
-        if line.starts_with(b"ma") {
-            make(rt, &list, &lines)?;
+    let mut lines = text;
+    let mut rest = text;
+    for piece in text.split_inclusive(|byte| *byte == b'\n') {
+        rest = rest.get(piece.len()..).unwrap_or_default();
+        let Some(line) = piece.strip_suffix(b"\n") else {
+            break;
+        };
+        if report::ends_list(line) {
+            make(rt, &list, lines)?;
             list = List::new();
-            lines.clear();
+            lines = rest;
         } else {
             command(rt, &mut list, line, &mut file)?;
-            lines.push(line)?;
         }
     }
     Ok(())
 }
 
+// Standard input has room for fewer than 65,536 bytes.
+// Kept: a length beside the buffer, as `read` tells it; one that is full is of too long an input.
 fn main(rt: HostRuntime) -> io::Result<()> {
-    let Some(text) = input::read(&rt)? else {
+    let mut text = [0; 65536];
+    let length = input::read(&rt, &mut text)?;
+    if length == text.len() {
         return println!(&rt; "standard input is too long");
-    };
-    lists(&rt, &text)
+    }
+    lists(&rt, part(&text, 0, length))
 }

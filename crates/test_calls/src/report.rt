@@ -90,9 +90,17 @@ fn print_line<'a>(
     Ok(told)
 }
 
-pub fn print(rt: &impl Print, lines: &[&[u8]], told: &[u32], buffer: &[u8]) -> io::Result<()> {
+// The line that has a list made.
+pub fn ends_list(line: &[u8]) -> bool {
+    line.starts_with(b"ma")
+}
+
+// Of the lines of a text before the first that ends a list.
+pub fn print(rt: &impl Print, lines: &[u8], told: &[u32], buffer: &[u8]) -> io::Result<()> {
     let mut rest = told;
-    for line in lines {
+    let pieces = lines.split_inclusive(|byte| *byte == b'\n');
+    let lines = pieces.map_while(|piece| piece.strip_suffix(b"\n"));
+    for line in lines.take_while(|line| !ends_list(line)) {
         rest = print_line(rt, line, rest, buffer)?;
     }
     print_rest(rt, rest)

@@ -34,7 +34,7 @@ fn run(case: &mut Case, two: &mut Two) -> Result<(), Difference> {
     let a = arguments::begin(case.random, byte(case.file, 5));
     let limit = steps_within(a.limit);
     let some = arguments::amount(case.random, limit);
-    let begun = two.call(|runner| runner.begin(a.mode, &a.inputs, a.allowed, a.limit));
+    let begun = two.call(|runner| runner.begin(a.mode, a.inputs(), a.allowed, a.limit));
     case.pair.alike(begun)?;
     case.pair.alike(two.call(|runner| runner.advance(some)))?;
     case.pair.alike(two.call(|runner| runner.advance(limit)))?;

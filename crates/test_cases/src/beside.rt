@@ -12,7 +12,7 @@ use test_samples::files::byte;
 
 // How a run ends that is advanced by its limit at once, or what refuses its begin.
 fn ending(runner: Runner, a: &Arguments) -> Result<Answered, Refusal> {
-    let begun = runner.begin(a.mode, &a.inputs, a.allowed, a.limit);
+    let begun = runner.begin(a.mode, a.inputs(), a.allowed, a.limit);
     begun.told?;
     let ended = begun.runner.advance(steps_within(a.limit));
     ended.runner.answer()

@@ -5,7 +5,6 @@
 use crate::pair::{Difference, Pair};
 use crate::report;
 use crate::report::Failure;
-use arrayvec::ArrayVec;
 use std::array;
 use test_samples::arguments::Arguments;
 use test_samples::files;
@@ -16,11 +15,10 @@ use test_text::{edits, letters};
 
 // The arguments of a begin: the inputs are the last numbers of the line, after their count.
 fn arguments(line: &[u8]) -> Arguments {
-    let mut inputs = ArrayVec::from(array::from_fn(|i| number(line, 5 + i)));
-    inputs.truncate(number(line, 4) as usize);
     Arguments {
         mode: number(line, 1),
-        inputs,
+        numbers: array::from_fn(|i| number(line, 5 + i)),
+        count: number(line, 4) as usize,
         allowed: number(line, 2),
         limit: number(line, 3),
     }

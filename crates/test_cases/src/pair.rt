@@ -45,7 +45,7 @@ impl fmt::Display for Difference {
 // 0 where there is none; `mode` and `limit` are those of the last run. `case` and `calls` say where
 // the pair is. `exchanged` says that the case's file is a chart's with two blocks exchanged.
 // Kept: `exchanged` and `mode` are as they were drawn, and no value stands beside the flag.
-#[derive(Drop)]
+#[derive(Clone, Copy)]
 pub struct Pair {
     runner: Runner,
     model: Model,
@@ -228,8 +228,8 @@ impl Pair {
     }
 
     pub fn begin(&mut self, a: &Arguments) -> Result<(), Difference> {
-        let model = self.model.begin(a.mode, &a.inputs, a.allowed, a.limit);
-        let begun = self.runner.begin(a.mode, &a.inputs, a.allowed, a.limit);
+        let model = self.model.begin(a.mode, a.inputs(), a.allowed, a.limit);
+        let begun = self.runner.begin(a.mode, a.inputs(), a.allowed, a.limit);
         if self.follow("begin", begun, model)?.is_err() {
             return Ok(());
         }

@@ -3,16 +3,23 @@
 // share.
 use crate::files;
 use crate::random::Random;
-use arrayvec::ArrayVec;
 
-// The arguments of a begin.
-// Kept: the mode is a number, since one that is no mode is drawn too.
-#[derive(Drop)]
+// The arguments of a begin, whose inputs are the first `count` numbers.
+// Kept: the mode is a number, since one that is no mode is drawn too. And a count stands beside an
+// array, as arguments are copied, and no ArrayVec is.
+#[derive(Clone, Copy)]
 pub struct Arguments {
     pub mode: u32,
-    pub inputs: ArrayVec<u32, 20>,
+    pub numbers: [u32; 20],
+    pub count: usize,
     pub allowed: u32,
     pub limit: u32,
+}
+
+impl Arguments {
+    pub fn inputs(&self) -> &[u32] {
+        files::front(&self.numbers, self.count)
+    }
 }
 
 // The steps that a limit means.
@@ -76,14 +83,12 @@ impl Draw<'_> {
         }
     }
 
-    fn inputs(&mut self, count: usize) -> ArrayVec<u32, 20> {
-        let mut inputs = [0; 20];
-        for input in &mut inputs {
-            *input = self.random.edge();
+    fn numbers(&mut self) -> [u32; 20] {
+        let mut numbers = [0; 20];
+        for number in &mut numbers {
+            *number = self.random.edge();
         }
-        let mut inputs = ArrayVec::from(inputs);
-        inputs.truncate(count);
-        inputs
+        numbers
     }
 }
 
@@ -97,7 +102,8 @@ pub fn begin(random: &mut Random, k: u32) -> Arguments {
     let limit = draw.limit();
     Arguments {
         mode,
-        inputs: draw.inputs(count),
+        numbers: draw.numbers(),
+        count,
         allowed,
         limit,
     }

@@ -293,7 +293,7 @@ pub fn make(random: &mut Random) -> Draft {
         length: files::length_of(boxes),
         shape,
     };
-    files::put_header(&mut draft.file, edition as u8, inputs, boxes, first);
+    files::put_header(&mut draft.file, edition as u32, inputs, boxes, first);
     draft.put_boxes(random);
     let forks = forks_number(random, boxes);
     draft.put_forks(random, forks);

@@ -1,10 +1,9 @@
 // Damage to a chart's file: one change of one kind, or two, or two blocks exchanged.
 // Kept: a kind of damage is drawn as a number, and a match gives each its share.
 use crate::charts::{Draft, Shape};
-use crate::files::{get, low, put};
+use crate::files::{File, front, get, low, put};
 use crate::random::Random;
 use crate::{charts, files};
-use arrayvec::ArrayVec;
 
 impl Shape {
     // A byte that may stand at an edge of a rule.
@@ -140,13 +139,21 @@ impl Draft {
     }
 }
 
-// A file that was drawn, and whether it is a chart's with two box blocks exchanged and nothing else
-// changed.
-// Kept: a flag, since the file is there either way; an Option would have no more to hold.
-#[derive(Drop)]
+// A file that was drawn, at the front of a buffer, and whether it is a chart's with two box blocks
+// exchanged and nothing else changed.
+// Kept: a flag, since the file is there either way; an Option would have no more to hold. And a
+// length stands beside the buffer, as what was drawn is copied, and no ArrayVec is.
+#[derive(Clone, Copy)]
 pub struct Drawn {
-    pub bytes: ArrayVec<u8, 3072>,
+    pub buffer: File,
+    pub length: usize,
     pub exchanged: bool,
+}
+
+impl Drawn {
+    pub fn bytes(&self) -> &[u8] {
+        front(&self.buffer, self.length)
+    }
 }
 
 // The file of a random chart. One time in three there is a change to it, one time in four two; or
@@ -167,7 +174,9 @@ pub fn draw(random: &mut Random) -> Drawn {
             }
         }
     }
-    let mut bytes = ArrayVec::from(draft.file);
-    bytes.truncate(draft.length);
-    Drawn { bytes, exchanged }
+    Drawn {
+        buffer: draft.file,
+        length: draft.length,
+        exchanged,
+    }
 }

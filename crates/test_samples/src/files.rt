@@ -55,9 +55,14 @@ pub fn put_box(file: &mut File, p: u32, bytes: [u8; 10]) {
 }
 
 // Block 0 of a chart, without its check.
-pub fn put_header(file: &mut File, edition: u8, k: u32, n: u32, first: u32) {
+pub fn put_header(file: &mut File, edition: u32, k: u32, n: u32, first: u32) {
+    let edition = low(edition);
     let header = [b'F', b'L', b'O', b'W', edition, low(k), low(n), low(first)];
     file[..8].copy_from_slice(&header);
+}
+
+pub fn clear(file: &mut File) {
+    *file = [0; 3072];
 }
 
 // The check of a block that adds a number to its weighted sum. From the last byte down, a byte that
@@ -106,7 +111,7 @@ const LOOP: [u8; 10] = [1, 16, 1, 16, 0, 0, 0, 0, 0, 0];
 
 // A chart of edition 1 and of n boxes, each chart C's; with k 0 and n 1 it is chart C.
 pub fn put_chart(file: &mut File, k: u32, n: u32) {
-    *file = [0; 3072];
+    clear(file);
     put_header(file, 1, k, n, 0);
     for p in 0..n {
         put_box(file, p, LOOP);

@@ -4,7 +4,7 @@
 #![tactic(auto)]
 
 pub mod arguments;
-mod charts;
+pub mod charts;
 pub mod damage;
 pub mod files;
 pub mod random;

@@ -2,9 +2,18 @@
 use std::io;
 use std::io::Read;
 
-// The bytes of standard input, or none where there are 65,536 or more.
-pub fn read(rt: &(impl Input + AllocGlobal)) -> io::Result<Option<Vec<u8>>> {
-    let mut bytes = Vec::new(rt.alloc());
-    let length = rt.reader().take(65536).read_to_end(&mut bytes)?;
-    Ok((length < 65536).then_some(bytes))
+// Reads to the front of a buffer until it is full or the input ends, and answers how many bytes
+// there were.
+// Kept: the loop and its length, since no method of std fills an array as far as an input goes:
+// `read_exact` refuses a shorter one, and `read_to_end` needs a heap.
+pub fn read(rt: &impl Input, buffer: &mut [u8]) -> io::Result<usize> {
+    let mut input = rt.reader();
+    let mut length = 0;
+    while length < buffer.len() {
+        match input.read(&mut buffer[length..])? {
+            0 => break,
+            more => length += more,
+        }
+    }
+    Ok(length)
 }

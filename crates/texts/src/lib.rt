@@ -70,7 +70,9 @@ impl Text {
     // Kept: a Display and `write!` promise their bytes where they are Ok, and no clause says when
     // that is, but these bytes always come. `printed_length` holds the length 0 where there is no
     // room. Length and bytes are two clauses, here, below and in `reply`: proofs above cite each by
-    // its name.
+    // its name. Kept inline, here and below: the compiler then stores a word as a constant, where it
+    // would copy it by its length.
+    #[inline(always)]
     #[tactic(auto, unfolding(crate::specs::Printing::sentence))]
     pub fn print(self, out: &mut [u8]) -> usize
         ensures value { result ≡ printed_length (text_of self) (length out.old) }
@@ -105,6 +107,7 @@ impl Text {
 }
 
 // A word and a number at the front.
+#[inline(always)]
 fn put_clause(word: &str, number: u64, out: &mut [u8]) -> usize
     requires { length word.now + 20 ≤ length out.old }
     ensures value { result ≡ length (clause word.now number) }
@@ -121,6 +124,7 @@ fn put_clause(word: &str, number: u64, out: &mut [u8]) -> usize
 }
 
 // The clauses, then the newline, where the buffer has room for every text.
+#[inline(always)]
 fn print_sentence(clauses: &[(&str, u64)], out: &mut [u8]) -> usize
     requires { sum_by (λ c. length c.0.now + 20) clauses.now < 64 }
     ensures value { result ≡ printed_length (sentence (map (λ c. (c.0.now, c.1)) clauses.now)) (length out.old) }
